@@ -1,0 +1,63 @@
+-- A statement over the numbers below a bound, as a test, and what the test says.
+--
+--   some k t    some number below k passes t: `some-means`, and `none-means` where none does
+--
+-- Nobody runs it for a large bound: it is what the sentence says, and faster methods are proved equal to it.
+-- Assumes nothing.
+use mathlib.Core.Path.{_≡_, refl}
+use mathlib.Core.Logic.{_⊎_, inl, inr, _↔_, ⊎-elim}
+use mathlib.Core.Bool.{Bool, true, false, _||_}
+use Prim.Native.Nat.{ℕ, zero, suc, _≤_, _<_}
+use native.Mathlib.Nat.{not-suc-le-zero, le-refl}
+use native.Mathlib.Omega.{arith}
+use Rattle.gf2.specs.Numbers.{order}
+
+unfoldable pub some : ℕ → (ℕ → Bool) → Bool
+some zero t = false
+some (suc k) t = t k || some k t
+
+pub or-cases : (a b : Bool) → (a || b) ≡ true → (a ≡ true) ⊎ (b ≡ true)
+or-cases true b e = inl refl
+or-cases false b e = inr e
+
+pub or-right : (a b : Bool) → b ≡ true → (a || b) ≡ true
+or-right true b e = refl
+or-right false b e = e
+
+pub bool-cases : (b : Bool) → (b ≡ true) ⊎ (b ≡ false)
+bool-cases true = inl refl
+bool-cases false = inr refl
+
+pub not-both : (b : Bool) → b ≡ true → b ≡ false → ⊥
+not-both b p q = let z : _≡_ {A = ℕ} 0 1 = cc in omega arith
+
+pub not-true-false : (b : Bool) → (b ≡ true → ⊥) → b ≡ false
+not-true-false true h = absurd (h refl)
+not-true-false false h = refl
+
+some-found : (k : ℕ) (t : ℕ → Bool) → some k t ≡ true → (d : ℕ) × (d < k) × (t d ≡ true)
+unfolding some
+some-found zero t e = absurd (not-both false e refl)
+some-found (suc k) t e =
+    ⊎-elim
+    (λ (h : t k ≡ true). (k, le-refl (suc k), h))
+    (λ (h : some k t ≡ true). let i = some-found k t h in (i .0, omega (arith, i .1), i .2))
+    (or-cases (t k) (some k t) e)
+
+some-at : (k : ℕ) (t : ℕ → Bool) (d : ℕ) → d < k → t d ≡ true → some k t ≡ true
+unfolding some
+some-at zero t d h e = absurd (not-suc-le-zero h)
+some-at (suc k) t d h e =
+    ⊎-elim
+    (λ (l : d < k). or-right (t k) (some k t) (some-at k t d l e))
+    (λ (l : k ≤ d). let s : k ≡ d = omega arith in rw (s, e))
+    (order d k)
+
+pub some-means : (k : ℕ) (t : ℕ → Bool) → (some k t ≡ true) ↔ ((d : ℕ) × (d < k) × (t d ≡ true))
+some-means k t = (some-found k t, λ s. some-at k t (s .0) (s .1) (s .2))
+
+pub none-means : (k : ℕ) (t : ℕ → Bool) → (some k t ≡ false) ↔ ((d : ℕ) → d < k → t d ≡ true → ⊥)
+none-means k t = (
+  λ e d h p. not-both (some k t) (some-at k t d h p) e,
+  λ none. not-true-false (some k t) (λ e. let s = some-found k t e in none (s .0) (s .1) (s .2)),
+)

@@ -1,0 +1,9 @@
+-- Polynomials over the two-element field as numbers: definitions in `Poly`, laws in the rest.
+pub mod Poly
+pub mod Numbers
+pub mod Sum
+pub mod Product
+pub mod Remainder
+pub mod Degrees
+pub mod Divisors
+pub mod Bounded

@@ -1,0 +1,1 @@
+// Polynomials over the two-element field as numbers.
