@@ -23,21 +23,21 @@ unfolding size
 sized =
     bin-ind (λ (m : ℕ). 0 < m → (1 ≤ size m) × Degree m (size m - 1)) (λ h. absurd (omega arith))
     (λ m ih h.
-      let s : size m ≡ size (m / 2) + 1 = digits-pos 0 (λ d r. r + 1) m h in
-      ⊎-elim
-      (λ (l : m / 2 < 1).
-        let e : m / 2 ≡ 0 = omega arith in
-        let z : size (m / 2) ≡ 0 = ap size e ∙ digits-zero 0 (λ d r. r + 1) in
-        let d : size m - 1 ≡ 0 = omega arith in
-        (omega arith, rw d (record { low = h; high = omega arith })))
-      (λ (l : 1 ≤ m / 2).
-        let i = ih l in
-        let k : ℕ = size (m / 2) - 1 in
-        let d : size m - 1 ≡ k + 1 = omega (arith, i .0) in
-        let u : 2 ^ k ≤ m / 2 = i .1 .low in
-        let v : m / 2 < 2 ^ k * 2 = rw pow-next at (i .1 .high) in
-        (omega arith, rw d (record { low = rw pow-next (omega arith); high = rw (pow-next (k + 1), pow-next) (omega arith) })))
-      (order (m / 2) 1))
+    let s : size m ≡ size (m / 2) + 1 = digits-pos 0 (λ d r. r + 1) m h in
+    ⊎-elim
+    (λ (l : m / 2 < 1).
+    let e : m / 2 ≡ 0 = omega arith in
+    let z : size (m / 2) ≡ 0 = ap size e ∙ digits-zero 0 (λ d r. r + 1) in
+    let d : size m - 1 ≡ 0 = omega arith in
+    (omega arith, rw d (record { low = h; high = omega arith })))
+    (λ (l : 1 ≤ m / 2).
+    let i = ih l in
+    let k : ℕ = size (m / 2) - 1 in
+    let d : size m - 1 ≡ k + 1 = omega (arith, i .0) in
+    let u : 2 ^ k ≤ m / 2 = i .1 .low in
+    let v : m / 2 < 2 ^ k * 2 = rw pow-next at (i .1 .high) in
+    (omega arith, rw d (record { low = rw pow-next (omega arith); high = rw (pow-next (k + 1), pow-next) (omega arith) })))
+    (order (m / 2) 1))
 
 pub degree-is : (a : ℕ) → 0 < a → Degree a (degree a)
 unfolding degree size
@@ -73,7 +73,7 @@ degree-shift a n k d =
     let e : n + k + 1 ≡ n + 1 + k = omega arith in
     record {
       low = rw pow-add (mul-le-mul-right (2 ^ k) (d .low));
-      high = rw e (shl-lt (n + 1) k (d .high))
+      high = rw e (shl-lt (n + 1) k (d .high));
     }
 
 -- ---- the degree of a product
@@ -103,5 +103,5 @@ degree-product a b i j da db =
     let n : i + 1 + j ≡ i + j + 1 = omega arith in
     record {
       low = rw e (⊕-high (i + j) (b * 2 ^ i) (product t b) lo (product-lt i j t b (omega arith) hb));
-      high = rw n at (product-lt (i + 1) j a b (da .high) hb)
+      high = rw n at (product-lt (i + 1) j a b (da .high) hb);
     }

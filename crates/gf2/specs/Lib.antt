@@ -7,3 +7,7 @@ pub mod Remainder
 pub mod Degrees
 pub mod Divisors
 pub mod Bounded
+pub mod Spread
+pub mod Euclid
+pub mod Words
+pub mod Steps

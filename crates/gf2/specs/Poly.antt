@@ -18,7 +18,6 @@ use lib.Dec.{ltb, eqb}
 use lib.Bits.{bitXor}
 
 infixl 63 _⊕_
-
 -- "Addition is exclusive or."
 unfoldable pub _⊕_ : ℕ → ℕ → ℕ
 a ⊕ b = bitXor a b

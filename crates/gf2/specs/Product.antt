@@ -64,7 +64,7 @@ product-⊕-r a =
     bin-ind (λ (n : ℕ). (b c : ℕ) → product n (b ⊕ c) ≡ product n b ⊕ product n c)
     (λ b c. simp (product-zero-l, zero-⊕))
     (λ n ih b c. rw (product-step n (b ⊕ c), product-step n b, product-step n c, ih b c, bit-mul-⊕ (n % 2) b c (mod-two-lt n), ⊕-double)
-        (⊕-four (n % 2 * b) (n % 2 * c) (product (n / 2) b * 2) (product (n / 2) c * 2)))
+    (⊕-four (n % 2 * b) (n % 2 * c) (product (n / 2) b * 2) (product (n / 2) c * 2)))
     a
 
 pub product-⊕-l : (a b c : ℕ) → product (a ⊕ b) c ≡ product a c ⊕ product b c
@@ -72,7 +72,7 @@ product-⊕-l a =
     bin-ind (λ (n : ℕ). (b c : ℕ) → product (n ⊕ b) c ≡ product n c ⊕ product b c)
     (λ b c. simp (product-zero-l, zero-⊕))
     (λ n ih b c. rw (product-step (n ⊕ b) c, product-step n c, product-step b c, ⊕-half, ⊕-odd, ih (b / 2) c, bit-⊕-mul (n % 2) (b % 2) c (mod-two-lt n) (mod-two-lt b), ⊕-double)
-        (⊕-four (n % 2 * c) (b % 2 * c) (product (n / 2) c * 2) (product (b / 2) c * 2)))
+    (⊕-four (n % 2 * c) (b % 2 * c) (product (n / 2) c * 2) (product (b / 2) c * 2)))
     a
 
 -- ---- the second operand
@@ -170,4 +170,4 @@ pub product-square : (a : ℕ) → product a a ≡ spread a
 product-square =
     bin-ind (λ (m : ℕ). product m m ≡ spread m) (product-zero-l 0 ∙ sym spread-zero)
     (λ m ih. ap (λ (x : ℕ). product x x) (sym (div-add-mod' m 2)) ∙ product-square-parts (m / 2) 1 (m % 2) (mod-two-lt m)
-        ∙ rw (ih, bit-square (m % 2) (mod-two-lt m)) (⊕-low (spread (m / 2)) 2 (m % 2) (omega arith) ∙ sym (spread-step m)))
+    ∙ rw (ih, bit-square (m % 2) (mod-two-lt m)) (⊕-low (spread (m / 2)) 2 (m % 2) (omega arith) ∙ sym (spread-step m)))

@@ -74,13 +74,13 @@ module _ (f n : ℕ) where
   rem-quotient =
       bin-ind (λ (m : ℕ). (q : ℕ) × (m ≡ product q f ⊕ rem f n m)) (0, sym (rw (product-zero-l, rem-zero) (zero-⊕ 0)))
       (λ m ih.
-        let q = ih .0 in
-        let y : ℕ = rem f n (m / 2) * 2 + m % 2 in
-        let e : m ≡ product (q * 2) f ⊕ y = quotient-step m q (ih .1) y refl in
-        ⊎-elim
-        (λ (l : y < 2 ^ n). (q * 2, e ∙ ap (λ (x : ℕ). product (q * 2) f ⊕ x) (sym (rem-step f n m ∙ reduce-small f n y l))))
-        (λ (l : 2 ^ n ≤ y). (q * 2 ⊕ 1, e ∙ sym (ap (λ (x : ℕ). product (q * 2 ⊕ 1) f ⊕ x) (rem-step f n m ∙ reduce-large f n y l) ∙ rw (product-⊕-l, product-one-l, ⊕-assoc, ⊕-comm y f, ⊕-cancel))))
-        (order y (2 ^ n)))
+      let q = ih .0 in
+      let y : ℕ = rem f n (m / 2) * 2 + m % 2 in
+      let e : m ≡ product (q * 2) f ⊕ y = quotient-step m q (ih .1) y refl in
+      ⊎-elim
+      (λ (l : y < 2 ^ n). (q * 2, e ∙ ap (λ (x : ℕ). product (q * 2) f ⊕ x) (sym (rem-step f n m ∙ reduce-small f n y l))))
+      (λ (l : 2 ^ n ≤ y). (q * 2 ⊕ 1, e ∙ sym (ap (λ (x : ℕ). product (q * 2 ⊕ 1) f ⊕ x) (rem-step f n m ∙ reduce-large f n y l) ∙ rw (product-⊕-l, product-one-l, ⊕-assoc, ⊕-comm y f, ⊕-cancel))))
+      (order y (2 ^ n)))
 
 module _ (f n : ℕ) (deg : Degree f n) where
   high : f < 2 ^ n * 2
@@ -113,13 +113,13 @@ module _ (f n : ℕ) (deg : Degree f n) where
       bin-ind (λ (m : ℕ). (b : ℕ) → rem f n (m ⊕ b) ≡ rem f n m ⊕ rem f n b)
       (λ b. simp (rem-zero, zero-⊕))
       (λ m ih b.
-        rem-step f n (m ⊕ b)
-        ∙ ap (reduce f n)
-          (rw (⊕-half, ⊕-odd, ih (b / 2), ← ⊕-digit (rem f n (m / 2) ⊕ rem f n (b / 2)) (m % 2 ⊕ b % 2) (⊕-lt 1 (m % 2) (b % 2) (mod-two-lt m) (mod-two-lt b)), ⊕-double)
-          (⊕-four (rem f n (m / 2) * 2) (rem f n (b / 2) * 2) (m % 2) (b % 2)
-          ∙ ap₂ _⊕_ (⊕-digit (rem f n (m / 2)) (m % 2) (mod-two-lt m)) (⊕-digit (rem f n (b / 2)) (b % 2) (mod-two-lt b))))
-        ∙ reduce-⊕ f n (rem f n (m / 2) * 2 + m % 2) (rem f n (b / 2) * 2 + b % 2) (below (m / 2) (m % 2) (mod-two-lt m)) (below (b / 2) (b % 2) (mod-two-lt b))
-        ∙ sym (ap₂ _⊕_ (rem-step f n m) (rem-step f n b)))
+      rem-step f n (m ⊕ b)
+      ∙ ap (reduce f n)
+      (rw (⊕-half, ⊕-odd, ih (b / 2), ← ⊕-digit (rem f n (m / 2) ⊕ rem f n (b / 2)) (m % 2 ⊕ b % 2) (⊕-lt 1 (m % 2) (b % 2) (mod-two-lt m) (mod-two-lt b)), ⊕-double)
+      (⊕-four (rem f n (m / 2) * 2) (rem f n (b / 2) * 2) (m % 2) (b % 2)
+      ∙ ap₂ _⊕_ (⊕-digit (rem f n (m / 2)) (m % 2) (mod-two-lt m)) (⊕-digit (rem f n (b / 2)) (b % 2) (mod-two-lt b))))
+      ∙ reduce-⊕ f n (rem f n (m / 2) * 2 + m % 2) (rem f n (b / 2) * 2 + b % 2) (below (m / 2) (m % 2) (mod-two-lt m)) (below (b / 2) (b % 2) (mod-two-lt b))
+      ∙ sym (ap₂ _⊕_ (rem-step f n m) (rem-step f n b)))
       a
 
   pub rem-rem : (a : ℕ) → rem f n (rem f n a) ≡ rem f n a
@@ -142,7 +142,7 @@ module _ (f n : ℕ) (deg : Degree f n) where
       bin-ind (λ (m : ℕ). (b : ℕ) → rem f n (product m (rem f n b)) ≡ rem f n (product m b))
       (λ b. simp product-zero-l)
       (λ m ih b.
-        rw (product-step m (rem f n b), product-step m b, rem-⊕, rem-⊕, rem-double, rem-double, ih b, rem-bit (m % 2) (rem f n b) (mod-two-lt m), rem-bit (m % 2) b (mod-two-lt m), rem-rem))
+      rw (product-step m (rem f n b), product-step m b, rem-⊕, rem-⊕, rem-double, rem-double, ih b, rem-bit (m % 2) (rem f n b) (mod-two-lt m), rem-bit (m % 2) b (mod-two-lt m), rem-rem))
       a
 
   pub rem-product-l : (a b : ℕ) → rem f n (product (rem f n a) b) ≡ rem f n (product a b)
@@ -175,3 +175,7 @@ module _ (f n : ℕ) (deg : Degree f n) where
   unfolding mulMod
   mulMod-step a b h =
       rw (product-step-r a b, rem-⊕, rem-bit (b % 2) a (mod-two-lt b), ← product-double-l a (b / 2), ← rem-product-l (a * 2) (b / 2), rem-double a, rem-small f n a h)
+
+pub mulMod-zero-r : (f n a : ℕ) → mulMod f n a 0 ≡ 0
+unfolding mulMod
+mulMod-zero-r f n a = rw product-zero-r (rem-zero f n)

@@ -59,8 +59,8 @@ pub ⊕-assoc : (a b c : ℕ) → (a ⊕ b) ⊕ c ≡ a ⊕ (b ⊕ c)
     bin-ind (λ (n : ℕ). (b c : ℕ) → (n ⊕ b) ⊕ c ≡ n ⊕ (b ⊕ c))
     (λ b c. simp zero-⊕)
     (λ n ih b c. by-digits
-        (simp ⊕-half (ih (b / 2) (c / 2)))
-        (simp ⊕-odd (bit-assoc (n % 2) (b % 2) (c % 2) (bitCases (n % 2) (mod-two-lt n)) (bitCases (b % 2) (mod-two-lt b)) (bitCases (c % 2) (mod-two-lt c)))))
+    (simp ⊕-half (ih (b / 2) (c / 2)))
+    (simp ⊕-odd (bit-assoc (n % 2) (b % 2) (c % 2) (bitCases (n % 2) (mod-two-lt n)) (bitCases (b % 2) (mod-two-lt b)) (bitCases (c % 2) (mod-two-lt c)))))
     a
 
 pub ⊕-left-comm : (a b c : ℕ) → a ⊕ (b ⊕ c) ≡ b ⊕ (a ⊕ c)

@@ -1,1 +1,7 @@
-// Polynomials over the two-element field as numbers.
+// Polynomials over the two-element field as numbers: bit i is the coefficient of x^i.
+pub mod degree;
+pub mod divisor;
+pub mod multiply;
+pub mod remainder;
+pub mod spread;
+pub mod square;

@@ -1,0 +1,68 @@
+-- One turn of each loop over coefficients, as laws on numbers: x times a, the walk of the remainder, one more byte of a square.
+-- Assumes nothing.
+use mathlib.Core.Path.{_≡_, refl, sym, ap, ap₂, _∙_}
+use mathlib.Core.Logic.{⊎-elim}
+use Prim.Native.Nat.{ℕ, suc, _+_, _-_, _*_, _/_, _%_, _^_, _≤_, _<_}
+use native.Mathlib.Nat.{zero-mul, one-mul, sub-add-cancel, add-comm}
+use native.Mathlib.Omega.{arith}
+use lib.Pow.{pow-mono, pow-pos, shl-exact, shr-shr, split}
+use Rattle.gf2.specs.Poly.{_⊕_, product, reduce, rem, mulMod, spread, Degree}
+use Rattle.gf2.specs.Numbers.{bitCases, pow-next, mod-two-lt}
+use Rattle.gf2.specs.Sum.{⊕-lt, ⊕-zero, ⊕-assoc, ⊕-comm}
+use Rattle.gf2.specs.Product.{product-comm, product-power, product-square, product-square-parts}
+use Rattle.gf2.specs.Degrees.{degree-shift}
+use Rattle.gf2.specs.Remainder.{reduce-is, reduce-lt, top-lt, rem-zero, rem-⊕, rem-same, rem-small, rem-lt, rem-shift, mulMod-step}
+
+pub bit-mul-lt : (d x m : ℕ) → d < 2 → x < m → d * x < m
+bit-mul-lt d x m h l = ⊎-elim (λ (e : d ≡ 0). rw (e, zero-mul) (omega arith)) (λ (e : d ≡ 1). rw (e, one-mul) l) (bitCases d h)
+
+-- ---- the product
+
+module _ (f n : ℕ) (deg : Degree f n) where
+  -- the sum so far and the product of what is left make the product
+  pub mulMod-turn : (sum a rest m sum′ a′ : ℕ)
+      → (sum < 2 ^ n) × (a < 2 ^ n) × (sum ⊕ mulMod f n a rest ≡ m)
+      → sum′ ≡ sum ⊕ (rest % 2) * a → a′ ≡ reduce f n (a * 2)
+      → (sum′ < 2 ^ n) × (a′ < 2 ^ n) × (sum′ ⊕ mulMod f n a′ (rest / 2) ≡ m)
+  mulMod-turn sum a rest m sum′ a′ inv p q = (
+    rw p (⊕-lt n sum (rest % 2 * a) (inv .0) (bit-mul-lt (rest % 2) a (2 ^ n) (mod-two-lt rest) (inv .1))),
+    rw q (reduce-lt f n deg (a * 2) (omega (arith, inv .1))),
+    rw (p, q, ⊕-assoc) (ap (λ (x : ℕ). sum ⊕ x) (sym (mulMod-step f n deg a rest (inv .1))) ∙ inv .2),
+  )
+
+  -- ---- the walk of the remainder
+
+  -- the coefficient at k, which is at n or above, is taken away with f
+  pub rem-walk : (k r : ℕ) → n ≤ k → r < 2 ^ (k + 1)
+      → (r ⊕ (r / 2 ^ k) * (f * 2 ^ (k - n)) < 2 ^ k) × (rem f n (r ⊕ (r / 2 ^ k) * (f * 2 ^ (k - n))) ≡ rem f n r)
+  rem-walk k r h l =
+      let g : ℕ = f * 2 ^ (k - n) in
+      let s : n + (k - n) ≡ k = add-comm n (k - n) ∙ sub-add-cancel h in
+      let dg : Degree g k = rw s at (degree-shift f n (k - n) deg) in
+      let top : r < 2 ^ k * 2 = rw pow-next at l in
+      let multiple : (d : ℕ) → d < 2 → rem f n (r ⊕ d * g) ≡ rem f n r =
+      λ d hd. ⊎-elim
+      (λ (e : d ≡ 0). rw (e, zero-mul, ⊕-zero))
+      (λ (e : d ≡ 1). rw (e, one-mul, ⊕-comm, ← product-power f (k - n), product-comm f (2 ^ (k - n))) (rem-same f n deg (2 ^ (k - n)) r))
+      (bitCases d hd) in
+      (rw (← reduce-is g k r top) (reduce-lt g k dg r top), multiple (r / 2 ^ k) (top-lt k r top))
+
+  pub rem-walked : (k r y : ℕ) → k ≤ n → r < 2 ^ k → rem f n r ≡ rem f n y → r ≡ rem f n y
+  rem-walked k r y h l e = sym (rem-small f n r (omega (arith, pow-mono h))) ∙ e
+
+  -- ---- one more byte of a square
+
+  -- r is the square of what stands from k upward in a; the next byte's square is s
+  pub square-turn : (a k r s : ℕ) → 8 ≤ k → r ≡ rem f n (product (a / 2 ^ k) (a / 2 ^ k)) → s ≡ spread (a / 2 ^ (k - 8) % 256)
+      → rem f n (r * 2 ^ 16 ⊕ s) ≡ rem f n (product (a / 2 ^ (k - 8)) (a / 2 ^ (k - 8)))
+  square-turn a k r s h inv es =
+      let q : ℕ = a / 2 ^ (k - 8) in
+      let hi : ℕ = a / 2 ^ k in
+      let ek : k - 8 + 8 ≡ k = sub-add-cancel h in
+      let eh : q / 256 ≡ hi = shr-shr a (k - 8) 8 ∙ ap (λ (x : ℕ). a / 2 ^ x) ek in
+      let eq : hi * 256 + q % 256 ≡ q = ap (λ (x : ℕ). x * 256 + q % 256) (sym eh) ∙ split q 8 in
+      let lo : s ≡ product (q % 256) (q % 256) = es ∙ sym (product-square (q % 256)) in
+      ap₂ (λ (x y : ℕ). rem f n (x * 2 ^ 16 ⊕ y)) inv lo
+      ∙ rem-shift f n deg (product hi hi) 16 (product (q % 256) (q % 256))
+      ∙ ap (rem f n) (sym (product-square-parts hi 8 (q % 256) (omega arith)))
+      ∙ ap (λ (x : ℕ). rem f n (product x x)) eq

@@ -1,0 +1,27 @@
+// The remainder modulo a polynomial.
+ghost use mathlib.Core.Path.{_≡_};
+ghost use Prim.Native.Nat.{_+_, _*_, _^_, _≤_, _<_};
+ghost use Rattle.gf2.specs.Poly.{rem, Degree};
+
+// A coefficient times a row: the row where the bit is 1, else 0. A mask and no branch, since coefficients cannot be foreseen.
+pub fn picked(bit: u64, row: u64) -> u64
+    requires { ⌜ bit < 2 ⌝ }
+    ensures { λ r. ⌜ r ≡ bit * row ⌝ }
+{
+    std::num::wrapping_sub_u64(0, bit) & row
+}
+
+// The remainder modulo f, of degree n, of a polynomial y with no coefficient from width upward: a walk down over the
+// coefficients from width to n, each taken away with f.
+pub fn remainder(f: u64, n: u32, width: u32, y: u64) -> u64
+    requires { ⌜ (width ≤ 64) × Degree f n × (y < 2 ^ width) ⌝ }
+    ensures { λ r. ⌜ r ≡ rem f n y ⌝ }
+{
+    let mut k = width;
+    let mut r = y;
+    while n < k {
+        k -= 1;
+        r = r ^ picked(r >> k, f << (k - n));
+    }
+    r
+}
