@@ -1,7 +1,15 @@
 // Polynomials over the two-element field as numbers: bit i is the coefficient of x^i.
-pub mod degree;
-pub mod divisor;
-pub mod multiply;
-pub mod remainder;
-pub mod spread;
-pub mod square;
+mod degree;
+mod division;
+mod euclid;
+mod multiplication;
+mod spread;
+mod squaring;
+
+pub use degree::degree_of;
+pub use division::picked;
+pub use division::remainder;
+pub use euclid::greatest_common;
+pub use multiplication::multiply;
+pub use spread::spread_table;
+pub use squaring::square;

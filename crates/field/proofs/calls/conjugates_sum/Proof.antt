@@ -1,0 +1,67 @@
+-- `field::calls::conjugates_sum` meets its contract. The invariant: sum is the sum of the first i conjugates, and y the next.
+-- The measure is what is left of n. Assumes nothing.
+use mathlib.Core.Path.{_≡_, refl, sym, ap, ap₂, _∙_}
+use Prim.Native.Nat.{ℕ, suc, _+_, _-_, _^_, _≤_, _<_}
+use native.Mathlib.Numerals.{add-one}
+use native.Mathlib.Omega.{arith}
+use lib.Bits.{bitXor}
+use Rattle.gf2.specs.Poly.{_⊕_}
+use Rattle.field.specs.Field.{squared, traceTo, trace}
+use Rattle.field.specs.Frobenius.{squared-lt}
+use Rattle.field.proofs.Conjugate.{squared-start, squared-turn}
+use Rattle.field.proofs.calls.conjugates_sum.Statement.{statement}
+use Rattle.field.proofs.calls.conjugates_sum.Tie as tie
+
+abbrev Inv-loop : tie.InvT-loop
+Inv-loop table f n a sum₀ y₀ i₀ sum y i = (i ≤ n) × (sum ≡ traceTo f n i a) × (y ≡ squared f n i a)
+
+abbrev μ-loop : tie.MeasureT-loop
+μ-loop table f n a sum₀ y₀ i₀ sum y i = n - i
+
+start : (f n a : ℕ) → 0 ≡ traceTo f n 0 a
+unfolding traceTo
+start f n a = refl
+
+turn : (f n i a sum y : ℕ) → sum ≡ traceTo f n i a → y ≡ squared f n i a → bitXor sum y ≡ traceTo f n (i + 1) a
+unfolding traceTo _⊕_
+turn f n i a sum y p q = rw (add-one, p, q)
+
+done : (f n i a sum : ℕ) → i ≤ n → n ≤ i → sum ≡ traceTo f n i a → sum ≡ trace f n a
+unfolding trace
+done f n i a sum p q e = let s : i ≡ n = omega arith in e ∙ ap (λ (x : ℕ). traceTo f n x a) s
+
+loop-holds : tie.Need-loop-holds Inv-loop μ-loop
+loop-holds c =
+    (omega arith, start (c .args .f) (c .args .n) (c .args .a), squared-start (c .args .f) (c .args .n) (c .args .a))
+
+square-requires : tie.Need-square-requires Inv-loop μ-loop
+square-requires c κs =
+    let l = c .before in
+    let s = l .before in
+    (s .pre .0, omega (arith, s .pre .1), s .pre .2, rw (l .loop .inv .2) (squared-lt (s .args .f) (s .args .n) (s .pre .2) (l .loop .i) (s .args .a) (s .pre .3)))
+
+add-i : tie.Need-add-i Inv-loop μ-loop
+add-i c = omega arith
+
+loop-less : tie.Need-loop-less Inv-loop μ-loop
+loop-less c = omega arith
+
+loop-again : tie.Need-loop-again Inv-loop μ-loop
+loop-again c =
+    let l = c .before .before in
+    let s = l .before in (
+      omega arith,
+      turn (s .args .f) (s .args .n) (l .loop .i) (s .args .a) (l .loop .sum) (l .loop .y) (l .loop .inv .1) (l .loop .inv .2),
+      squared-turn (s .args .f) (s .args .n) (s .pre .2) (l .loop .i) (s .args .a) (l .loop .y) (c .square .result) (l .loop .inv .2) (c .square .ensures),
+    )
+
+returns : tie.Need-returns Inv-loop μ-loop
+returns c =
+    let l = c .before in
+    let s = l .before in
+    done (s .args .f) (s .args .n) (l .loop .i) (s .args .a) (l .loop .sum) (l .loop .inv .0) (c .loop-test .left) (l .loop .inv .1)
+
+pub conjugates-sum-spec : {M : Type 1} → statement M
+conjugates-sum-spec =
+    tie.close
+    (tie.spec Inv-loop μ-loop loop-holds square-requires add-i loop-less loop-again returns)

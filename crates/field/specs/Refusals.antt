@@ -1,0 +1,79 @@
+-- The refusal table of document 01, and how a call's order picks from it.
+--
+--   Rule              a row of the table as it stands in a call: number, place, and whether its condition holds
+--   firstOf order     "Each condition is tested only if none earlier in the call's order applied."
+--   ..Rule            the rows 1 to 4
+--   ..Order           the orders of the four field calls
+--
+-- Assumes nothing.
+use mathlib.Core.Bool.{Bool, false, cond, _||_}
+use mathlib.Core.List.{List, [], _∷_}
+use Prim.Native.Nat.{ℕ, _^_}
+use lib.Dec.{leb}
+use Rattle.gf2.specs.Poly.{degree}
+use Rattle.field.specs.Accepted.{outOfRange, divided, strays}
+
+pub record Rule : Type 0 where
+  pub number : ℕ
+  pub place : ℕ
+  pub applies : Bool
+
+-- what an order finds: nothing to refuse, or a number and a place
+pub data Verdict : Type 0 where
+  clear : Verdict
+  refuse : (number place : ℕ) → Verdict
+
+unfoldable pub firstOf : List Rule → Verdict
+firstOf [] = clear
+firstOf (r ∷ rs) = cond (r .applies) (refuse (r .number) (r .place)) (firstOf rs)
+
+-- the number alone; "Done is 0"
+unfoldable pub numberOf : Verdict → ℕ
+numberOf clear = 0
+numberOf (refuse k p) = k
+
+-- ---- the rows
+
+-- "degree of f below 2 or above 46, zero polynomial included"
+abbrev pub degreeRule : (f : ℕ) → Rule
+degreeRule f = record { number = 1; place = 0; applies = outOfRange f }
+
+-- "some polynomial of degree 1 to n-1 divides f"
+abbrev pub divisorRule : (f : ℕ) → Rule
+divisorRule f = record { number = 2; place = 0; applies = divided f (degree f) }
+
+-- "repeated squaring n times does not return x"
+abbrev pub returnRule : (f : ℕ) → Rule
+returnRule f = record { number = 3; place = 0; applies = strays f (degree f) }
+
+unfoldable pub tooLarge : (n a : ℕ) → Bool
+tooLarge n a = leb (2 ^ n) a
+
+abbrev pub anyTooLarge : (n : ℕ) → List ℕ → Bool
+anyTooLarge n [] = false
+anyTooLarge n (a ∷ values) = tooLarge n a || anyTooLarge n values
+
+-- "an element, coordinate number or range end is 2^n or more", where the values are no list of the caller's: place 0
+abbrev pub sizeRule : (n : ℕ) → List ℕ → Rule
+sizeRule n values = record { number = 4; place = 0; applies = anyTooLarge n values }
+
+-- ---- the orders
+
+-- "Multiply, square: 1, 4."
+abbrev pub multiplyOrder : (f a b : ℕ) → List Rule
+multiplyOrder f a b = degreeRule f ∷ sizeRule (degree f) (a ∷ b ∷ []) ∷ []
+
+abbrev pub squareOrder : (f a : ℕ) → List Rule
+squareOrder f a = degreeRule f ∷ sizeRule (degree f) (a ∷ []) ∷ []
+
+-- 2 and 3, which every call that needs an accepted f tests together
+abbrev pub fieldOrder : (f : ℕ) → List Rule
+fieldOrder f = divisorRule f ∷ returnRule f ∷ []
+
+-- "Trace: 1, 4, 2, 3."
+abbrev pub traceOrder : (f a : ℕ) → List Rule
+traceOrder f a = degreeRule f ∷ sizeRule (degree f) (a ∷ []) ∷ fieldOrder f
+
+-- "Check of f: 1, 2, 3."
+abbrev pub checkOrder : (f : ℕ) → List Rule
+checkOrder f = degreeRule f ∷ fieldOrder f

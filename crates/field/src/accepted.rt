@@ -1,0 +1,90 @@
+// The conditions under which f is accepted, as the calls test them (document 01, "Two notations").
+ghost use mathlib.Core.Path.{_≡_};
+ghost use mathlib.Core.Bool.{cond};
+ghost use Prim.Native.Nat.{_+_, _/_, _^_, _≤_, _<_};
+ghost use Rattle.gf2.specs.Poly.{degree, Degree};
+ghost use Rattle.gf2.specs.Spread.{SpreadTable};
+ghost use Rattle.field.specs.Field.{squared};
+ghost use Rattle.field.specs.Accepted.{limit, outOfRange, divided};
+ghost use Rattle.field.specs.Refusals.{firstOf, numberOf, fieldOrder, tooLarge};
+use gf2::degree_of;
+use gf2::greatest_common;
+use gf2::square;
+
+// The largest degree.
+pub const LIMIT: u32 = 46;
+
+// Refusal 1: the degree of f is not 2 to LIMIT.
+pub fn out_of_range(f: u64) -> bool
+    ensures { λ r. ⌜ r ≡ outOfRange f ⌝ }
+{
+    let n = degree_of(f);
+    n < 2 || LIMIT < n
+}
+
+// Refusal 4: a is no element of a field of degree n.
+pub fn too_large(n: u32, a: u64) -> bool
+    requires { ⌜ n < 64 ⌝ }
+    ensures { λ r. ⌜ r ≡ tooLarge n a ⌝ }
+{
+    1u64 << n <= a
+}
+
+// a squared k times in a row.
+pub fn squared_times(table: &[u16; 256], f: u64, n: u32, k: u32, a: u64) -> u64
+    requires { ⌜ SpreadTable (now table) × (n ≤ limit) × Degree f n × (a < 2 ^ n) ⌝ }
+    ensures { λ r. ⌜ r ≡ squared f n k a ⌝ }
+{
+    let mut y = a;
+    let mut i: u32 = 0;
+    while i < k {
+        y = square(table, f, n, y);
+        i += 1;
+    }
+    y
+}
+
+// Whether f is divided, and where it is not, what x has become half way through its n squarings.
+pub struct Halfway {
+    pub divided: bool,
+    pub conjugate: u64,
+}
+
+// f has a divisor exactly if it has one in common with x^(2^i) + x for some i from 1 to n/2.
+fn squared_half(table: &[u16; 256], f: u64, n: u32) -> Halfway
+    requires { ⌜ SpreadTable (now table) × (2 ≤ n) × (n ≤ limit) × Degree f n ⌝ }
+    ensures { λ r. ⌜ (r .divided ≡ divided f n) × (r .conjugate ≡ cond (divided f n) 0 (squared f n (n / 2) 2)) ⌝ }
+{
+    let mut y: u64 = 2;
+    let mut i: u32 = 0;
+    while i < n / 2 {
+        y = square(table, f, n, y);
+        if greatest_common(f, y ^ 2) != 1 {
+            return Halfway {
+                divided: true,
+                conjugate: 0,
+            };
+        }
+        i += 1;
+    }
+    Halfway {
+        divided: false,
+        conjugate: y,
+    }
+}
+
+// The refusal number of the first of conditions 2 and 3 that applies to f, of degree n, or 0.
+pub fn field_refusal(table: &[u16; 256], f: u64, n: u32) -> u8
+    requires { ⌜ SpreadTable (now table) × (2 ≤ n) × (n ≤ limit) × Degree f n ⌝ }
+    ensures { λ r. ⌜ r ≡ numberOf (firstOf (fieldOrder f)) ⌝ }
+{
+    let half = squared_half(table, f, n);
+    if half.divided {
+        return 2;
+    }
+    if squared_times(table, f, n, n - n / 2, half.conjugate) == 2 {
+        0
+    } else {
+        3
+    }
+}

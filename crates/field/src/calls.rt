@@ -1,0 +1,110 @@
+// The four field calls. Each takes any numbers, and its promise gives the case of its answer and document 01's numbers for it.
+ghost use mathlib.Core.Path.{_≡_};
+ghost use Prim.Native.Nat.{_^_, _≤_, _<_};
+ghost use Rattle.gf2.specs.Poly.{Degree};
+ghost use Rattle.gf2.specs.Spread.{SpreadTable};
+ghost use Rattle.field.specs.Accepted.{limit};
+ghost use Rattle.field.specs.Field.{trace};
+ghost use Rattle.field.specs.Answers.{refusalAt, valueNumbers, checkedNumbers, multiplyAnswer, multiplyNumbers, squareAnswer, squareNumbers, traceAnswer, traceNumbers, checkAnswer, checkNumbers};
+use super::accepted::field_refusal;
+use super::accepted::out_of_range;
+use super::accepted::too_large;
+use super::answer::Checked;
+use super::answer::Refusal;
+use super::answer::Value;
+use gf2::degree_of;
+use gf2::spread_table;
+
+// A refusal of something that is no part of a list or a sheet.
+fn refusal(number: u8) -> Refusal
+    ensures { λ r. ⌜ r ≡ refusalAt number 0 ⌝ }
+{
+    Refusal { number, place: 0 }
+}
+
+// a times b modulo f.
+pub fn multiply(f: u64, a: u64, b: u64) -> Value
+    ensures answer { λ r. ⌜ r ≡ multiplyAnswer f a b ⌝ }
+    ensures numbers { λ r. ⌜ valueNumbers r ≡ multiplyNumbers f a b ⌝ }
+{
+    if out_of_range(f) {
+        return Value::Refused(refusal(1));
+    }
+    let n = degree_of(f);
+    if too_large(n, a) {
+        return Value::Refused(refusal(4));
+    }
+    if too_large(n, b) {
+        return Value::Refused(refusal(4));
+    }
+    Value::Done(gf2::multiply(f, n, a, b))
+}
+
+// a times a modulo f.
+pub fn square(f: u64, a: u64) -> Value
+    ensures answer { λ r. ⌜ r ≡ squareAnswer f a ⌝ }
+    ensures numbers { λ r. ⌜ valueNumbers r ≡ squareNumbers f a ⌝ }
+{
+    if out_of_range(f) {
+        return Value::Refused(refusal(1));
+    }
+    let n = degree_of(f);
+    if too_large(n, a) {
+        return Value::Refused(refusal(4));
+    }
+    let table = spread_table();
+    Value::Done(gf2::square(&table, f, n, a))
+}
+
+// The sum of the n conjugates of a.
+fn conjugates_sum(table: &[u16; 256], f: u64, n: u32, a: u64) -> u64
+    requires { ⌜ SpreadTable (now table) × (n ≤ limit) × Degree f n × (a < 2 ^ n) ⌝ }
+    ensures { λ r. ⌜ r ≡ trace f n a ⌝ }
+{
+    let mut sum: u64 = 0;
+    let mut y = a;
+    let mut i: u32 = 0;
+    while i < n {
+        sum = sum ^ y;
+        y = gf2::square(table, f, n, y);
+        i += 1;
+    }
+    sum
+}
+
+// The trace of a.
+pub fn trace(f: u64, a: u64) -> Value
+    ensures answer { λ r. ⌜ r ≡ traceAnswer f a ⌝ }
+    ensures numbers { λ r. ⌜ valueNumbers r ≡ traceNumbers f a ⌝ }
+{
+    if out_of_range(f) {
+        return Value::Refused(refusal(1));
+    }
+    let n = degree_of(f);
+    if too_large(n, a) {
+        return Value::Refused(refusal(4));
+    }
+    let table = spread_table();
+    let number = field_refusal(&table, f, n);
+    if number != 0 {
+        return Value::Refused(refusal(number));
+    }
+    Value::Done(conjugates_sum(&table, f, n, a))
+}
+
+// Whether f is accepted.
+pub fn check(f: u64) -> Checked
+    ensures answer { λ r. ⌜ r ≡ checkAnswer f ⌝ }
+    ensures numbers { λ r. ⌜ checkedNumbers r ≡ checkNumbers f ⌝ }
+{
+    if out_of_range(f) {
+        return Checked::Refused(refusal(1));
+    }
+    let n = degree_of(f);
+    let table = spread_table();
+    let number = field_refusal(&table, f, n);
+    if number != 0 {
+        return Checked::Refused(refusal(number));
+    }
+    Checked::Done
+}
