@@ -36,10 +36,10 @@ pub fn squared_times(table: &[u16; 256], f: u64, n: u32, k: u32, a: u64) -> u64
     ensures { λ r. ⌜ r ≡ squared f n k a ⌝ }
 {
     let mut y = a;
-    let mut i: u32 = 0;
-    while i < k {
+    let mut done: u32 = 0;
+    while done < k {
         y = square(table, f, n, y);
-        i += 1;
+        done += 1;
     }
     y
 }

@@ -1,4 +1,4 @@
--- `field::accepted::squared_times` meets its contract. The invariant: y is a squared i times.
+-- `field::accepted::squared_times` meets its contract. The invariant: y is a squared as often as is done.
 -- The measure is what is left of k. Assumes nothing.
 use mathlib.Core.Path.{_≡_, sym, ap, _∙_}
 use Prim.Native.Nat.{ℕ, suc, _+_, _-_, _^_, _≤_, _<_}
@@ -12,13 +12,13 @@ use Rattle.field.proofs.accepted.squared_times.Statement.{statement}
 use Rattle.field.proofs.accepted.squared_times.Tie as tie
 
 abbrev Inv-loop : tie.InvT-loop
-Inv-loop table f n k a y₀ i₀ y i = (i ≤ k) × (y ≡ squared f n i a)
+Inv-loop table f n k a y₀ done₀ y done = (done ≤ k) × (y ≡ squared f n done a)
 
 abbrev μ-loop : tie.MeasureT-loop
-μ-loop table f n k a y₀ i₀ y i = k - i
+μ-loop table f n k a y₀ done₀ y done = k - done
 
-done : (f n a i k y : ℕ) → i ≤ k → k ≤ i → y ≡ squared f n i a → y ≡ squared f n k a
-done f n a i k y p q e = let s : i ≡ k = omega arith in e ∙ ap (λ (x : ℕ). squared f n x a) s
+all-done : (f n a i k y : ℕ) → i ≤ k → k ≤ i → y ≡ squared f n i a → y ≡ squared f n k a
+all-done f n a i k y p q e = let s : i ≡ k = omega arith in e ∙ ap (λ (x : ℕ). squared f n x a) s
 
 loop-holds : tie.Need-loop-holds Inv-loop μ-loop
 loop-holds c = (omega arith, squared-start (c .args .f) (c .args .n) (c .args .a))
@@ -27,10 +27,10 @@ square-requires : tie.Need-square-requires Inv-loop μ-loop
 square-requires c κs =
     let l = c .before in
     let s = l .before in
-    (s .pre .0, omega (arith, s .pre .1), s .pre .2, rw (l .loop .inv .1) (squared-lt (s .args .f) (s .args .n) (s .pre .2) (l .loop .i) (s .args .a) (s .pre .3)))
+    (s .pre .0, omega (arith, s .pre .1), s .pre .2, rw (l .loop .inv .1) (squared-lt (s .args .f) (s .args .n) (s .pre .2) (l .loop .done) (s .args .a) (s .pre .3)))
 
-add-i : tie.Need-add-i Inv-loop μ-loop
-add-i c = omega arith
+add-done : tie.Need-add-done Inv-loop μ-loop
+add-done c = omega arith
 
 loop-less : tie.Need-loop-less Inv-loop μ-loop
 loop-less c = omega arith
@@ -39,15 +39,15 @@ loop-again : tie.Need-loop-again Inv-loop μ-loop
 loop-again c =
     let l = c .before .before in
     let s = l .before in
-    (omega arith, squared-turn (s .args .f) (s .args .n) (s .pre .2) (l .loop .i) (s .args .a) (l .loop .y) (c .square .result) (l .loop .inv .1) (c .square .ensures))
+    (omega arith, squared-turn (s .args .f) (s .args .n) (s .pre .2) (l .loop .done) (s .args .a) (l .loop .y) (c .square .result) (l .loop .inv .1) (c .square .ensures))
 
 returns : tie.Need-returns Inv-loop μ-loop
 returns c =
     let l = c .before in
     let s = l .before in
-    done (s .args .f) (s .args .n) (s .args .a) (l .loop .i) (s .args .k) (l .loop .y) (l .loop .inv .0) (c .loop-test .left) (l .loop .inv .1)
+    all-done (s .args .f) (s .args .n) (s .args .a) (l .loop .done) (s .args .k) (l .loop .y) (l .loop .inv .0) (c .loop-test .left) (l .loop .inv .1)
 
 pub squared-times-spec : {M : Type 1} → statement M
 squared-times-spec =
     tie.close
-    (tie.spec Inv-loop μ-loop loop-holds square-requires add-i loop-less loop-again returns)
+    (tie.spec Inv-loop μ-loop loop-holds square-requires add-done loop-less loop-again returns)
