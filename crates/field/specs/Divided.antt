@@ -12,7 +12,7 @@ use lib.Pow.{pow-pos, pow-mono}
 use borrow.Author.Tests.{leb-true, le-leb}
 use Rattle.gf2.specs.Poly.{product, degree, Degree, Divides, divides}
 use Rattle.gf2.specs.Numbers.{order, zero-one-more}
-use Rattle.gf2.specs.Bounded.{some, some-means, bool-cases, not-both, not-true-false}
+use Rattle.gf2.specs.Bounded.{some-means, bool-cases, not-both, not-true-false}
 use Rattle.gf2.specs.Product.{product-zero-l, product-zero-r, product-one-l, product-comm}
 use Rattle.gf2.specs.Degrees.{degree-is, degree-mono, degree-unique, degree-pos, degree-lt}
 use Rattle.gf2.specs.Divisors.{divides-trans, divides-means, Factors, factors, factor-lt}

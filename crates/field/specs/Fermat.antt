@@ -19,10 +19,10 @@ use Rattle.gf2.specs.Numbers.{bitCases, order, mod-two-lt}
 use Rattle.gf2.specs.Sum.{⊕-zero, zero-⊕, ⊕-comm, ⊕-self, ⊕-lt, ⊕-eq-zero, low-apart}
 use Rattle.gf2.specs.Product.{digits-zero, digits-step}
 use Rattle.gf2.specs.Remainder.{rem-small, rem-zero, rem-⊕, rem-self, mulMod-zero-r}
-use Rattle.field.specs.Field.{squared, powMod, Irreducible}
+use Rattle.field.specs.Field.{squared, Irreducible}
 use Rattle.field.specs.Ring.{mulMod-lt, mulMod-one-l, mulMod-x, one-lt, two-lt}
 use Rattle.field.specs.Frobenius.{squared-⊕, squared-mulMod, squared-zero, squared-bit, squared-lt, squared-add, squared-fixes}
-use Rattle.field.specs.Division.{no-zero-divisors, inverse}
+use Rattle.field.specs.Division.{no-zero-divisors}
 use Rattle.field.specs.Roots.{monicAt, too-many-roots}
 use Rattle.field.specs.ConjugateSums.{squared-moves}
 

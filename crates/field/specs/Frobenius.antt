@@ -7,7 +7,7 @@ use Prim.Native.Nat.{ℕ, zero, suc, _+_, _*_, _/_, _%_, _^_, _≤_, _<_}
 use native.Mathlib.Nat.{pow-suc, zero-add, suc-add}
 use native.Mathlib.Omega.{arith}
 use lib.Arith.{bin-ind}
-use Rattle.gf2.specs.Poly.{_⊕_, rem, mulMod, Degree}
+use Rattle.gf2.specs.Poly.{_⊕_, mulMod, Degree}
 use Rattle.gf2.specs.Numbers.{bitCases, mod-two-lt}
 use Rattle.gf2.specs.Sum.{low-apart}
 use Rattle.gf2.specs.Remainder.{rem-small, mulMod-zero-r}

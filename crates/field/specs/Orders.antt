@@ -2,19 +2,18 @@
 -- answer with its numbers; what the conditions 1 and 4 leave where they do not apply.
 -- Assumes nothing.
 use mathlib.Core.Path.{_≡_, refl, sym, ap, _∙_}
-use mathlib.Core.Logic.{_⊎_, inl, inr, ⊎-elim}
+use mathlib.Core.Logic.{⊎-elim}
 use mathlib.Core.Bool.{Bool, true, false, _||_}
 use mathlib.Core.List.{List, [], _∷_}
 use Prim.Native.Nat.{ℕ, _^_, _≤_, _<_}
 use native.Mathlib.Omega.{arith}
-use lib.Dec.{ltb, leb, eqb}
+use lib.Dec.{ltb}
 use borrow.Author.Tests.{ltb-false, leb-false}
 use Rattle.gf2.specs.Poly.{degree, Degree}
-use Rattle.gf2.specs.Bounded.{bool-cases}
 use Rattle.gf2.specs.Numbers.{order}
 use Rattle.gf2.specs.Degrees.{degree-is, degree-zero}
 use Rattle.field.specs.Accepted.{limit, outOfRange, divided, strays}
-use Rattle.field.specs.Refusals.{Rule, Verdict, clear, refuse, firstOf, numberOf, tooLarge, anyTooLarge, fieldOrder, divisorRule, returnRule}
+use Rattle.field.specs.Refusals.{Rule, Verdict, clear, refuse, firstOf, numberOf, tooLarge, anyTooLarge, fieldOrder}
 use Rattle.field.specs.Answers.{refusalAt, told, valueOf, valueNumbers, value-told, checkedOf, checkedNumbers, checked-told}
 use Rattle.field.specs.declared.answer.Refusal.{Refusal}
 use Rattle.field.specs.declared.answer.Value.{Value}

@@ -1,8 +1,8 @@
 // The conditions under which f is accepted, as the calls test them (document 01, "Two notations").
 ghost use mathlib.Core.Path.{_≡_};
 ghost use mathlib.Core.Bool.{cond};
-ghost use Prim.Native.Nat.{_+_, _/_, _^_, _≤_, _<_};
-ghost use Rattle.gf2.specs.Poly.{degree, Degree};
+ghost use Prim.Native.Nat.{_/_, _^_, _≤_, _<_};
+ghost use Rattle.gf2.specs.Poly.{Degree};
 ghost use Rattle.gf2.specs.Spread.{SpreadTable};
 ghost use Rattle.field.specs.Field.{squared};
 ghost use Rattle.field.specs.Accepted.{limit, outOfRange, divided};

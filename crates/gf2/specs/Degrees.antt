@@ -1,7 +1,7 @@
 -- Laws of the degree: every polynomial but 0 has one, and one only; that of a product is the sum of its factors' degrees.
 -- Assumes nothing.
-use mathlib.Core.Path.{_≡_, refl, sym, ap, _∙_}
-use mathlib.Core.Logic.{_⊎_, inl, inr, ⊎-elim}
+use mathlib.Core.Path.{_≡_, sym, ap, _∙_}
+use mathlib.Core.Logic.{⊎-elim}
 use Prim.Native.Nat.{ℕ, zero, suc, _+_, _-_, _*_, _/_, _%_, _^_, _≤_, _<_}
 use native.Mathlib.Nat.{le-refl, zero-mul, one-mul, pow-suc, zero-add, suc-add, add-comm, mul-le-mul-right}
 use native.Mathlib.Omega.{arith}

@@ -1,14 +1,11 @@
 -- The greatest common divisor, and the laws of Euclid's steps: a step keeps the common divisors; the last divisor is the
 -- greatest; there is one only.
 -- Assumes nothing.
-use mathlib.Core.Path.{_≡_, refl, sym, ap, _∙_}
-use mathlib.Core.Logic.{_⊎_, inl, inr, ⊎-elim}
-use Prim.Native.Nat.{ℕ, _+_, _^_, _≤_, _<_}
-use native.Mathlib.Omega.{arith}
-use Rattle.gf2.specs.Poly.{_⊕_, product, degree, rem, Degree, Divides}
+use mathlib.Core.Path.{_≡_, ap, _∙_}
+use Prim.Native.Nat.{ℕ}
+use Rattle.gf2.specs.Poly.{_⊕_, product, rem, Divides}
 use Rattle.gf2.specs.Sum.{⊕-cancel}
-use Rattle.gf2.specs.Remainder.{rem-quotient, rem-lt}
-use Rattle.gf2.specs.Degrees.{degree-is}
+use Rattle.gf2.specs.Remainder.{rem-quotient}
 use Rattle.gf2.specs.Divisors.{divides-self, divides-zero, divides-⊕, divides-product}
 
 -- g divides a and b, and what divides both divides g

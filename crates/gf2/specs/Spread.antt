@@ -1,7 +1,7 @@
 -- The table of byte spreads: its rule, and the one test over all entries that shows it
 -- (document 01, "Two notations": "The table's rule is proved over all entries at once").
 -- Assumes nothing.
-use mathlib.Core.Path.{_≡_, refl, sym, _∙_, subst}
+use mathlib.Core.Path.{_≡_, sym, _∙_}
 use mathlib.Core.Bool.{Bool, true, false, _&&_}
 use mathlib.Core.List.{List, [], _∷_}
 use Prim.Native.Nat.{ℕ, zero, suc, _+_, _<_}

@@ -1,17 +1,17 @@
 -- One turn of each loop over coefficients, as laws on numbers: x times a, the walk of the remainder, one more byte of a square.
 -- Assumes nothing.
-use mathlib.Core.Path.{_≡_, refl, sym, ap, ap₂, _∙_}
+use mathlib.Core.Path.{_≡_, sym, ap, ap₂, _∙_}
 use mathlib.Core.Logic.{⊎-elim}
-use Prim.Native.Nat.{ℕ, suc, _+_, _-_, _*_, _/_, _%_, _^_, _≤_, _<_}
+use Prim.Native.Nat.{ℕ, _+_, _-_, _*_, _/_, _%_, _^_, _≤_, _<_}
 use native.Mathlib.Nat.{zero-mul, one-mul, sub-add-cancel, add-comm}
 use native.Mathlib.Omega.{arith}
-use lib.Pow.{pow-mono, pow-pos, shl-exact, shr-shr, split}
+use lib.Pow.{pow-mono, shr-shr, split}
 use Rattle.gf2.specs.Poly.{_⊕_, product, reduce, rem, mulMod, spread, Degree}
 use Rattle.gf2.specs.Numbers.{bitCases, pow-next, mod-two-lt}
 use Rattle.gf2.specs.Sum.{⊕-lt, ⊕-zero, ⊕-assoc, ⊕-comm}
 use Rattle.gf2.specs.Product.{product-comm, product-power, product-square, product-square-parts}
 use Rattle.gf2.specs.Degrees.{degree-shift}
-use Rattle.gf2.specs.Remainder.{reduce-is, reduce-lt, top-lt, rem-zero, rem-⊕, rem-same, rem-small, rem-lt, rem-shift, mulMod-step}
+use Rattle.gf2.specs.Remainder.{reduce-is, reduce-lt, top-lt, rem-same, rem-small, rem-shift, mulMod-step}
 
 pub bit-mul-lt : (d x m : ℕ) → d < 2 → x < m → d * x < m
 bit-mul-lt d x m h l = ⊎-elim (λ (e : d ≡ 0). rw (e, zero-mul) (omega arith)) (λ (e : d ≡ 1). rw (e, one-mul) l) (bitCases d h)

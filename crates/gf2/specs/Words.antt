@@ -1,15 +1,14 @@
 -- What the machine's operations on 64-bit words come to where nothing is lost: masks, shifts, the count of leading zeros.
 -- Assumes nothing.
-use mathlib.Core.Path.{_≡_, refl, sym, ap, _∙_}
+use mathlib.Core.Path.{_≡_, _∙_}
 use mathlib.Core.Logic.{_⊎_, inl, inr}
-use Prim.Native.Nat.{ℕ, suc, _+_, _-_, _*_, _/_, _%_, _^_, _≤_, _<_}
+use Prim.Native.Nat.{ℕ, suc, _+_, _-_, _*_, _%_, _^_, _≤_, _<_}
 use native.Mathlib.Nat.{zero-mul, one-mul, mod-eq-of-lt}
 use native.Mathlib.Numerals.{add-one}
 use native.Mathlib.Omega.{arith}
 use lib.Bits.{bitAnd, and-comm, and-mask}
 use lib.Count.{leadingZeros, leading-top}
-use lib.Pow.{pow-mono}
-use Rattle.gf2.specs.Poly.{degree, Degree}
+use Rattle.gf2.specs.Poly.{degree}
 use Rattle.gf2.specs.Numbers.{bitCases}
 use Rattle.gf2.specs.Degrees.{degree-eq}
 

@@ -1,6 +1,6 @@
 // The remainder modulo a polynomial.
 ghost use mathlib.Core.Path.{_≡_};
-ghost use Prim.Native.Nat.{_+_, _*_, _^_, _≤_, _<_};
+ghost use Prim.Native.Nat.{_*_, _^_, _≤_, _<_};
 ghost use Rattle.gf2.specs.Poly.{rem, Degree};
 
 // A coefficient times a row: the row where the bit is 1, else 0. A mask and no branch, since coefficients cannot be foreseen.

@@ -1,13 +1,12 @@
 -- `field::accepted::field_refusal` meets its contract: the squarings from half way on bring x to what n squarings make of it.
 -- Assumes nothing.
-use mathlib.Core.Path.{_≡_, refl, sym, ap, _∙_}
-use mathlib.Core.Bool.{true, false, not, cond}
+use mathlib.Core.Path.{_≡_, sym, ap, _∙_}
+use mathlib.Core.Bool.{true, false, cond}
 use Prim.Native.Nat.{ℕ, _+_, _-_, _/_, _^_, _≤_, _<_}
 use native.Mathlib.Omega.{arith}
 use borrow.Author.Needs.{needs}
 use borrow.Author.Tests.{eq-eqb, ne-eqb}
-use lib.Dec.{eqb}
-use Rattle.gf2.specs.Poly.{degree, Degree}
+use Rattle.gf2.specs.Poly.{Degree}
 use Rattle.gf2.specs.Degrees.{degree-eq}
 use Rattle.field.specs.Field.{squared}
 use Rattle.field.specs.Accepted.{divided, strays}

@@ -1,8 +1,8 @@
 -- `field::accepted::squared_half` meets its contract. The invariant: y is x squared i times, and f has no divisor in common with
 -- x^(2^j) + x for any j up to i. The measure is what is left up to n/2. Assumes nothing.
-use mathlib.Core.Path.{_≡_, refl, sym, ap, _∙_}
+use mathlib.Core.Path.{_≡_, sym}
 use mathlib.Core.Bool.{true, false, cond}
-use Prim.Native.Nat.{ℕ, suc, _+_, _-_, _*_, _/_, _^_, _≤_, _<_}
+use Prim.Native.Nat.{ℕ, _+_, _-_, _/_, _^_, _≤_, _<_}
 use native.Mathlib.Omega.{arith}
 use lib.Bits.{bitXor}
 use lib.Pow.{pow-pos}

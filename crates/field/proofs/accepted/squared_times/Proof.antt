@@ -1,12 +1,10 @@
 -- `field::accepted::squared_times` meets its contract. The invariant: y is a squared as often as is done.
 -- The measure is what is left of k. Assumes nothing.
-use mathlib.Core.Path.{_≡_, sym, ap, _∙_}
-use Prim.Native.Nat.{ℕ, suc, _+_, _-_, _^_, _≤_, _<_}
-use native.Mathlib.Numerals.{add-one}
+use mathlib.Core.Path.{_≡_, ap, _∙_}
+use Prim.Native.Nat.{ℕ, _-_, _≤_}
 use native.Mathlib.Omega.{arith}
-use Rattle.gf2.specs.Poly.{mulMod, Degree}
 use Rattle.field.specs.Field.{squared}
-use Rattle.field.specs.Frobenius.{squared-lt, squared-next}
+use Rattle.field.specs.Frobenius.{squared-lt}
 use Rattle.field.proofs.Conjugate.{squared-start, squared-turn}
 use Rattle.field.proofs.accepted.squared_times.Statement.{statement}
 use Rattle.field.proofs.accepted.squared_times.Tie as tie

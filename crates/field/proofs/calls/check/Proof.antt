@@ -1,11 +1,10 @@
 -- `field::calls::check` meets its contract: each return has passed the conditions before it.
 -- Assumes nothing.
-use mathlib.Core.Path.{_≡_, sym, _∙_}
-use native.Mathlib.Omega.{arith}
+use mathlib.Core.Path.{sym, _∙_}
 use borrow.Author.Needs.{needs}
 use Rattle.field.specs.Refusals.{degreeRule}
 use Rattle.field.specs.Answers.{checkAnswer, checkNumbers}
-use Rattle.field.specs.Orders.{first-applies, first-passes, field-clear, field-refused, checked-refused, checked-done, InRange, in-range}
+use Rattle.field.specs.Orders.{first-applies, first-passes, field-clear, field-refused, checked-refused, checked-done, in-range}
 use Rattle.field.proofs.calls.check.Statement.{statement}
 use Rattle.field.proofs.calls.check.Tie as tie
 

@@ -10,7 +10,7 @@ use Rattle.gf2.specs.Poly.{degree, mulMod}
 use Rattle.field.specs.Accepted.{outOfRange}
 use Rattle.field.specs.Refusals.{clear, refuse, firstOf, tooLarge, degreeRule, sizeRule, multiplyOrder}
 use Rattle.field.specs.Answers.{multiplyAnswer, multiplyNumbers}
-use Rattle.field.specs.Orders.{first-applies, first-passes, first-none, value-refused, value-done, InRange, in-range, not-too-large, sized, any-first, any-next}
+use Rattle.field.specs.Orders.{first-applies, first-passes, first-none, value-refused, value-done, in-range, not-too-large, sized, any-first, any-next}
 use Rattle.field.proofs.calls.multiply.Statement.{statement}
 use Rattle.field.proofs.calls.multiply.Tie as tie
 

@@ -1,6 +1,6 @@
 -- `field::calls::square` meets its contract: each return has passed the conditions before it.
 -- Assumes nothing.
-use mathlib.Core.Path.{_≡_, refl, sym, ap, _∙_}
+use mathlib.Core.Path.{refl, sym, ap, _∙_}
 use mathlib.Core.List.{[], _∷_}
 use Prim.Native.Nat.{ℕ}
 use native.Mathlib.Omega.{arith}
@@ -8,7 +8,7 @@ use borrow.Author.Needs.{needs}
 use Rattle.gf2.specs.Poly.{degree, mulMod}
 use Rattle.field.specs.Refusals.{degreeRule, sizeRule}
 use Rattle.field.specs.Answers.{squareAnswer, squareNumbers}
-use Rattle.field.specs.Orders.{first-applies, first-passes, first-none, value-refused, value-done, InRange, in-range, not-too-large, sized, any-first, any-next}
+use Rattle.field.specs.Orders.{first-applies, first-passes, first-none, value-refused, value-done, in-range, not-too-large, sized, any-first, any-next}
 use Rattle.field.proofs.calls.square.Statement.{statement}
 use Rattle.field.proofs.calls.square.Tie as tie
 

@@ -1,7 +1,7 @@
 -- `field::calls::trace` meets its contract: each return has passed the conditions before it.
 -- Assumes nothing.
 use mathlib.Core.Path.{_≡_, refl, sym, ap, _∙_}
-use mathlib.Core.Bool.{true, false}
+use mathlib.Core.Bool.{false}
 use mathlib.Core.List.{[], _∷_}
 use Prim.Native.Nat.{ℕ}
 use native.Mathlib.Omega.{arith}
@@ -11,7 +11,7 @@ use Rattle.field.specs.Accepted.{outOfRange}
 use Rattle.field.specs.Field.{trace}
 use Rattle.field.specs.Refusals.{firstOf, tooLarge, degreeRule, sizeRule, fieldOrder, traceOrder}
 use Rattle.field.specs.Answers.{traceAnswer, traceNumbers}
-use Rattle.field.specs.Orders.{first-applies, first-passes, field-clear, field-refused, value-refused, value-done, InRange, in-range, not-too-large, sized, any-first, any-next}
+use Rattle.field.specs.Orders.{first-applies, first-passes, field-clear, field-refused, value-refused, value-done, in-range, not-too-large, sized, any-first, any-next}
 use Rattle.field.proofs.calls.trace.Statement.{statement}
 use Rattle.field.proofs.calls.trace.Tie as tie
 

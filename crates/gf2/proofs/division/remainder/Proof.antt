@@ -1,9 +1,8 @@
 -- `gf2::division::remainder` meets its contract. The invariant: r has no coefficient from k upward, and the remainder of y.
 -- The measure is k. Assumes nothing.
-use mathlib.Core.Path.{_≡_, refl, ap, ap₂, _∙_}
+use mathlib.Core.Path.{_≡_, refl, ap, _∙_}
 use Prim.Native.Nat.{ℕ, _+_, _-_, _*_, _/_, _%_, _^_, _≤_, _<_}
-use native.Mathlib.Nat.{add-comm, sub-add-cancel}
-use native.Mathlib.Numerals.{add-one}
+use native.Mathlib.Nat.{sub-add-cancel}
 use native.Mathlib.Omega.{arith}
 use lib.Bits.{bitXor}
 use lib.Pow.{shl-exact}

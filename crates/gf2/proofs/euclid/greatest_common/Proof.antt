@@ -1,7 +1,7 @@
 -- `gf2::euclid::greatest_common` meets its contract. The invariant: a and b have the common divisors of u and v, and u is not 0.
 -- The measure is v. Assumes nothing.
-use mathlib.Core.Path.{_≡_, sym, ap, _∙_}
-use Prim.Native.Nat.{ℕ, _+_, _^_, _≤_, _<_}
+use mathlib.Core.Path.{_≡_}
+use Prim.Native.Nat.{ℕ, _+_, _^_, _<_}
 use native.Mathlib.Omega.{arith}
 use borrow.Author.Needs.{needs}
 use Rattle.gf2.specs.Poly.{rem, degree, Degree}

@@ -1,11 +1,11 @@
 -- `gf2::multiplication::multiply` meets its contract. The invariant: the sum so far, and the product of what is left, make the product.
 -- The measure is what is left of b. Assumes nothing.
-use mathlib.Core.Path.{_≡_, sym, ap, ap₂, _∙_}
-use Prim.Native.Nat.{ℕ, _+_, _*_, _/_, _%_, _^_, _≤_, _<_}
+use mathlib.Core.Path.{_≡_, sym, ap, _∙_}
+use Prim.Native.Nat.{ℕ, _^_, _<_}
 use native.Mathlib.Omega.{arith}
 use lib.Bits.{bitXor}
 use lib.Pow.{pow-pos}
-use Rattle.gf2.specs.Poly.{_⊕_, mulMod, reduce, Degree}
+use Rattle.gf2.specs.Poly.{_⊕_, mulMod}
 use Rattle.gf2.specs.Numbers.{mod-two-lt}
 use Rattle.gf2.specs.Sum.{zero-⊕, ⊕-zero}
 use Rattle.gf2.specs.Remainder.{mulMod-zero-r}

@@ -1,12 +1,12 @@
 -- `gf2::multiplication::times_x` meets its contract: one coefficient at most stands at n, and is taken away with f.
 -- Assumes nothing.
-use mathlib.Core.Path.{_≡_, sym, ap, ap₂, _∙_}
-use Prim.Native.Nat.{ℕ, _+_, _*_, _/_, _%_, _^_, _≤_, _<_}
+use mathlib.Core.Path.{_≡_, sym}
+use Prim.Native.Nat.{ℕ, _*_, _/_, _%_, _^_, _≤_, _<_}
 use native.Mathlib.Omega.{arith}
 use borrow.Author.Needs.{needs}
 use lib.Bits.{bitXor}
 use lib.Pow.{pow-mono}
-use Rattle.gf2.specs.Poly.{_⊕_, reduce, Degree}
+use Rattle.gf2.specs.Poly.{_⊕_, reduce}
 use Rattle.gf2.specs.Remainder.{reduce-is, top-lt}
 use Rattle.gf2.proofs.multiplication.times_x.Statement.{statement}
 use Rattle.gf2.proofs.multiplication.times_x.Tie as tie

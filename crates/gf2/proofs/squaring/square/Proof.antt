@@ -1,15 +1,14 @@
 -- `gf2::squaring::square` meets its contract. The invariant: r is the square of the coefficients of a from k upward.
 -- The measure is k. Assumes nothing.
-use mathlib.Core.Path.{_≡_, refl, sym, ap, ap₂, _∙_}
-use Prim.Native.Nat.{ℕ, _+_, _-_, _*_, _/_, _%_, _^_, _≤_, _<_}
+use mathlib.Core.Path.{_≡_, sym, ap, _∙_}
+use Prim.Native.Nat.{ℕ, _-_, _/_, _%_, _^_, _≤_, _<_}
 use native.Mathlib.Nat.{div-one, div-eq-of-lt}
 use native.Mathlib.Omega.{arith}
 use borrow.Author.Needs.{needs}
 use lib.Pow.{pow-mono}
-use Rattle.gf2.specs.Poly.{_⊕_, product, rem, mulMod, spread, Degree}
+use Rattle.gf2.specs.Poly.{product, rem, mulMod}
 use Rattle.gf2.specs.Product.{product-zero-l}
 use Rattle.gf2.specs.Remainder.{rem-zero, rem-lt}
-use Rattle.gf2.specs.Spread.{SpreadTable}
 use Rattle.gf2.specs.Steps.{square-turn}
 use Rattle.gf2.proofs.squaring.square.Statement.{statement}
 use Rattle.gf2.proofs.squaring.square.Tie as tie
