@@ -12,7 +12,7 @@ use lib.Pow.{pow-pos, pow-mono}
 use borrow.Author.Tests.{leb-true, le-leb}
 use Rattle.gf2.specs.Poly.{product, degree, Degree, Divides, divides}
 use Rattle.gf2.specs.Numbers.{order, zero-one-more}
-use Rattle.gf2.specs.Bounded.{some-means, bool-cases, not-both, not-true-false}
+use Rattle.gf2.specs.Bounded.{some-means, first, Found, first-is, not-both, not-true-false}
 use Rattle.gf2.specs.Product.{product-zero-l, product-zero-r, product-one-l, product-comm}
 use Rattle.gf2.specs.Degrees.{degree-is, degree-mono, degree-unique, degree-pos, degree-lt}
 use Rattle.gf2.specs.Divisors.{divides-trans, divides-means, Factors, factors, factor-lt}
@@ -109,31 +109,17 @@ pub record Smallest (f n p : ℕ) : Type 0 where
   pub proper : Proper f n p
   pub least : (q : ℕ) → 2 ≤ q → q < p → Divides q f → ⊥
 
--- the first number below k that passes a test, or that there is none
-first-below : (t : ℕ → Bool) (k : ℕ) → ((p : ℕ) × (p < k) × (t p ≡ true) × ((q : ℕ) → q < p → t q ≡ true → ⊥)) ⊎ ((q : ℕ) → q < k → t q ≡ true → ⊥)
-first-below t zero = inr (λ q h e. omega arith)
-first-below t (suc k) =
-    ⊎-elim
-    (λ (s : (p : ℕ) × (p < k) × (t p ≡ true) × ((q : ℕ) → q < p → t q ≡ true → ⊥)). inl (s .0, omega (arith, s .1), s .2, s .3))
-    (λ (none : (q : ℕ) → q < k → t q ≡ true → ⊥).
-    ⊎-elim
-    (λ (e : t k ≡ true). inl (k, le-refl (suc k), e, none))
-    (λ (e : t k ≡ false).
-    inr (λ q h p. ⊎-elim (λ (u : q < k). none q u p) (λ (u : k ≤ q). let s : q ≡ k = omega arith in not-both (t k) (rw s at p) e) (order q k)))
-    (bool-cases (t k)))
-    (first-below t k)
-
 pub smallest-divisor : (f n : ℕ) → ((p : ℕ) × Smallest f n p) ⊎ ((d : ℕ) → Proper f n d → ⊥)
 smallest-divisor f n =
     let t : ℕ → Bool = λ d. leb 2 d && divides d f in
     let passes : (q : ℕ) → 2 ≤ q → Divides q f → t q ≡ true =
     λ q l v. rw (le-leb 2 q l) (divides-means q f (omega arith) .1 v) in
     ⊎-elim
-    (λ (s : (p : ℕ) × (p < 2 ^ n) × (t p ≡ true) × ((q : ℕ) → q < p → t q ≡ true → ⊥)).
-    let p = proper-test f (s .0) (s .2) in
-    inl (s .0, record { proper = record { two = p .0; below = s .1; divides = p .1 }; least = λ q l h v. s .3 q h (passes q l v) }))
-    (λ (none : (q : ℕ) → q < 2 ^ n → t q ≡ true → ⊥). inr (λ d s. none d (s .below) (passes d (s .two) (s .divides))))
-    (first-below t (2 ^ n))
+    (λ (s : Found (2 ^ n) t (first (2 ^ n) t)).
+      let p = proper-test f (first (2 ^ n) t) (s .passes) in
+      inl (first (2 ^ n) t, record { proper = record { two = p .0; below = s .below; divides = p .1 }; least = λ q l h v. s .least q h (passes q l v) }))
+    (λ (s : (first (2 ^ n) t ≡ 2 ^ n) × ((q : ℕ) → q < 2 ^ n → t q ≡ true → ⊥)). inr (λ d v. s .1 d (v .below) (passes d (v .two) (v .divides))))
+    (first-is (2 ^ n) t)
 
 module _ (f n p m : ℕ) (deg : Degree f n) (dp : Degree p m) (s : Smallest f n p) where
   pub smallest-irreducible : Irreducible p

@@ -1,15 +1,18 @@
 -- A statement over the numbers below a bound, as a test, and what the test says.
 --
 --   some k t    some number below k passes t: `some-means`, and `none-means` where none does
+--   first k t   the smallest number below k that passes t, and k where none does: `first-is`, `first-unique`
 --
 -- Nobody runs it for a large bound: it is what the sentence says, and faster methods are proved equal to it.
 -- Assumes nothing.
 use mathlib.Core.Path.{_≡_, refl}
 use mathlib.Core.Logic.{_⊎_, inl, inr, _↔_, ⊎-elim}
-use mathlib.Core.Bool.{Bool, true, false, _||_}
+use mathlib.Core.Bool.{Bool, true, false, cond, _||_}
 use Prim.Native.Nat.{ℕ, zero, suc, _≤_, _<_}
 use native.Mathlib.Nat.{not-suc-le-zero, le-refl}
 use native.Mathlib.Omega.{arith}
+use lib.Dec.{ltb}
+use borrow.Author.Tests.{lt-ltb, le-ltb}
 use Rattle.gf2.specs.Numbers.{order}
 
 unfoldable pub some : ℕ → (ℕ → Bool) → Bool
@@ -61,3 +64,44 @@ none-means k t = (
   λ e d h p. not-both (some k t) (some-at k t d h p) e,
   λ none. not-true-false (some k t) (λ e. let s = some-found k t e in none (s .0) (s .1) (s .2)),
 )
+
+-- ---- the smallest
+
+unfoldable pub first : ℕ → (ℕ → Bool) → ℕ
+first zero t = 0
+first (suc k) t = cond (ltb (first k t) k) (first k t) (cond (t k) k (suc k))
+
+-- what first finds: p passes, and nothing below it
+pub record Found (k : ℕ) (t : ℕ → Bool) (p : ℕ) : Type 0 where
+  pub below : p < k
+  pub passes : t p ≡ true
+  pub least : (d : ℕ) → d < p → t d ≡ true → ⊥
+
+pub first-is : (k : ℕ) (t : ℕ → Bool) → Found k t (first k t) ⊎ ((first k t ≡ k) × ((d : ℕ) → d < k → t d ≡ true → ⊥))
+unfolding first
+first-is zero t = inr (refl, λ d h e. not-suc-le-zero h)
+first-is (suc k) t = go (first-is k t) (bool-cases (t k))
+  where
+    go : Found k t (first k t) ⊎ ((first k t ≡ k) × ((d : ℕ) → d < k → t d ≡ true → ⊥)) → (t k ≡ true) ⊎ (t k ≡ false)
+        → Found (suc k) t (first (suc k) t) ⊎ ((first (suc k) t ≡ suc k) × ((d : ℕ) → d < suc k → t d ≡ true → ⊥))
+    go (inl s) b =
+        inl (rw (lt-ltb (first k t) k (s .below)) (record { below = omega (arith, s .below); passes = s .passes; least = s .least }))
+    go (inr s) (inl e) =
+        inl (rw (le-ltb (first k t) k (omega (arith, s .0)), e) (record { below = le-refl (suc k); passes = e; least = s .1 }))
+    go (inr s) (inr e) =
+        inr (
+          rw (le-ltb (first k t) k (omega (arith, s .0)), e),
+          λ d h p. ⊎-elim (λ (u : d < k). s .1 d u p) (λ (u : k ≤ d). let q : d ≡ k = omega arith in not-both (t k) (rw q at p) e) (order d k),
+        )
+
+pub first-unique : (k : ℕ) (t : ℕ → Bool) (p : ℕ) → Found k t p → first k t ≡ p
+first-unique k t p s = go (first-is k t)
+  where
+    go : Found k t (first k t) ⊎ ((first k t ≡ k) × ((d : ℕ) → d < k → t d ≡ true → ⊥)) → first k t ≡ p
+    go (inl u) =
+        ⊎-elim
+        (λ (l : first k t < p). absurd (s .least (first k t) l (u .passes)))
+        (λ (l : p ≤ first k t).
+        ⊎-elim (λ (m : p < first k t). absurd (u .least p m (s .passes))) (λ (m : first k t ≤ p). omega arith) (order p (first k t)))
+        (order (first k t) p)
+    go (inr u) = absurd (u .1 p (s .below) (s .passes))
