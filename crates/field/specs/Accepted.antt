@@ -1,7 +1,7 @@
 -- When f is accepted (document 01, "Two notations"): "its degree n is 2 to 46, no polynomial of degree 1 to n-1 divides it,
 -- and x squared n times in a row leaves x modulo f." Each of the three is a test of its own, named after its refusal.
 --
---   outOfRange f    refusal 1
+--   degreeOutside f    refusal 1
 --   divided f n     refusal 2; `divided-means` (in `Divided`) says it for every d
 --   strays f n      refusal 3
 --   Accepted f      none of them
@@ -13,15 +13,12 @@ use Prim.Native.Nat.{ℕ, _^_}
 use lib.Dec.{ltb, leb, eqb}
 use Rattle.gf2.specs.Poly.{degree, divides}
 use Rattle.gf2.specs.Bounded.{some}
+use Rattle.gf2.specs.Limit.{limit}
 use Rattle.field.specs.Field.{squared}
 
--- the largest degree
-abbrev pub limit : ℕ
-limit = 46
-
 -- "degree of f below 2 or above 46, zero polynomial included": the zero polynomial, which has none, counts as degree 0
-unfoldable pub outOfRange : (f : ℕ) → Bool
-outOfRange f = ltb (degree f) 2 || ltb limit (degree f)
+unfoldable pub degreeOutside : (f : ℕ) → Bool
+degreeOutside f = ltb (degree f) 2 || ltb limit (degree f)
 
 -- "some polynomial of degree 1 to n-1 divides f": these are the numbers from 2 to 2 ^ n - 1
 unfoldable pub divided : (f n : ℕ) → Bool
@@ -32,6 +29,6 @@ unfoldable pub strays : (f n : ℕ) → Bool
 strays f n = not (eqb (squared f n n 2) 2)
 
 pub record Accepted (f : ℕ) : Type 0 where
-  pub in-range : outOfRange f ≡ false
+  pub in-range : degreeOutside f ≡ false
   pub undivided : divided f (degree f) ≡ false
   pub returns : strays f (degree f) ≡ false

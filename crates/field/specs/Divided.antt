@@ -4,8 +4,7 @@
 use mathlib.Core.Path.{_≡_, refl, sym, ap, _∙_}
 use mathlib.Core.Logic.{_⊎_, inl, inr, ⊎-elim, _↔_}
 use mathlib.Core.Bool.{Bool, true, false, _&&_}
-use Prim.Native.Nat.{ℕ, zero, suc, _+_, _*_, _^_, _≤_, _<_}
-use native.Mathlib.Nat.{le-refl}
+use Prim.Native.Nat.{ℕ, _+_, _*_, _^_, _≤_, _<_}
 use native.Mathlib.Omega.{arith}
 use lib.Dec.{leb}
 use lib.Pow.{pow-pos, pow-mono}
@@ -116,8 +115,8 @@ smallest-divisor f n =
     λ q l v. rw (le-leb 2 q l) (divides-means q f (omega arith) .1 v) in
     ⊎-elim
     (λ (s : Found (2 ^ n) t (first (2 ^ n) t)).
-      let p = proper-test f (first (2 ^ n) t) (s .passes) in
-      inl (first (2 ^ n) t, record { proper = record { two = p .0; below = s .below; divides = p .1 }; least = λ q l h v. s .least q h (passes q l v) }))
+    let p = proper-test f (first (2 ^ n) t) (s .passes) in
+    inl (first (2 ^ n) t, record { proper = record { two = p .0; below = s .below; divides = p .1 }; least = λ q l h v. s .least q h (passes q l v) }))
     (λ (s : (first (2 ^ n) t ≡ 2 ^ n) × ((q : ℕ) → q < 2 ^ n → t q ≡ true → ⊥)). inr (λ d v. s .1 d (v .below) (passes d (v .two) (v .divides))))
     (first-is (2 ^ n) t)
 

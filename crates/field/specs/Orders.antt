@@ -12,9 +12,10 @@ use borrow.Author.Tests.{ltb-false, leb-false}
 use Rattle.gf2.specs.Poly.{degree, Degree}
 use Rattle.gf2.specs.Numbers.{order}
 use Rattle.gf2.specs.Degrees.{degree-is, degree-zero}
-use Rattle.field.specs.Accepted.{limit, outOfRange, divided, strays}
+use Rattle.gf2.specs.Limit.{limit}
+use Rattle.field.specs.Accepted.{degreeOutside, divided, strays}
 use Rattle.field.specs.Refusals.{Rule, Verdict, clear, refuse, firstOf, numberOf, tooLarge, anyTooLarge, fieldOrder}
-use Rattle.field.specs.Answers.{refusalAt, told, valueOf, valueNumbers, value-told, checkedOf, checkedNumbers, checked-told}
+use Rattle.field.specs.Answers.{refusalAt, reportOf, valueOf, valueReport, value-report, checkedOf, checkedReport, checked-report}
 use Rattle.field.specs.declared.answer.Refusal.{Refusal}
 use Rattle.field.specs.declared.answer.Value.{Value}
 use Rattle.field.specs.declared.answer.Value.the-variants as value
@@ -57,31 +58,31 @@ field-refused f k e z = go (divided f (degree f)) (strays f (degree f)) refl ref
 -- ---- the answers
 
 pub value-refused : {v : Verdict} (k x : ℕ) {r : Refusal} → r ≡ refusalAt k 0 → v ≡ refuse k 0
-    → (value.Refused r ≡ valueOf v x) × (valueNumbers (value.Refused r) ≡ told v x)
+    → (value.Refused r ≡ valueOf v x) × (valueReport (value.Refused r) ≡ reportOf v x)
 unfolding valueOf
 value-refused {v} k x {r} e p =
     let a : value.Refused r ≡ valueOf v x = rw (p, e) in
-    (a, ap valueNumbers a ∙ value-told v x)
+    (a, ap valueReport a ∙ value-report v x)
 
 pub value-done : {v : Verdict} (x : ℕ) {y : ℕ} → y ≡ x → v ≡ clear
-    → (value.Done y ≡ valueOf v x) × (valueNumbers (value.Done y) ≡ told v x)
+    → (value.Done y ≡ valueOf v x) × (valueReport (value.Done y) ≡ reportOf v x)
 unfolding valueOf
 value-done {v} x {y} e p =
     let a : value.Done y ≡ valueOf v x = rw (p, e) in
-    (a, ap valueNumbers a ∙ value-told v x)
+    (a, ap valueReport a ∙ value-report v x)
 
 pub checked-refused : {v : Verdict} (k : ℕ) {r : Refusal} → r ≡ refusalAt k 0 → v ≡ refuse k 0
-    → (checked.Refused r ≡ checkedOf v) × (checkedNumbers (checked.Refused r) ≡ told v 0)
+    → (checked.Refused r ≡ checkedOf v) × (checkedReport (checked.Refused r) ≡ reportOf v 0)
 unfolding checkedOf
 checked-refused {v} k {r} e p =
     let a : checked.Refused r ≡ checkedOf v = rw (p, e) in
-    (a, ap checkedNumbers a ∙ checked-told v)
+    (a, ap checkedReport a ∙ checked-report v)
 
-pub checked-done : {v : Verdict} → v ≡ clear → (checked.Done ≡ checkedOf v) × (checkedNumbers checked.Done ≡ told v 0)
+pub checked-done : {v : Verdict} → v ≡ clear → (checked.Done ≡ checkedOf v) × (checkedReport checked.Done ≡ reportOf v 0)
 unfolding checkedOf
 checked-done {v} p =
     let a : checked.Done ≡ checkedOf v = rw p in
-    (a, ap checkedNumbers a ∙ checked-told v)
+    (a, ap checkedReport a ∙ checked-report v)
 
 -- ---- what conditions 1 and 4 leave
 
@@ -94,8 +95,8 @@ pub record InRange (f n : ℕ) : Type 0 where
   pub most : n ≤ limit
   pub is-degree : Degree f n
 
-pub in-range : (f n : ℕ) → n ≡ degree f → outOfRange f ≡ false → InRange f n
-unfolding outOfRange
+pub in-range : (f n : ℕ) → n ≡ degree f → degreeOutside f ≡ false → InRange f n
+unfolding degreeOutside
 in-range f n en e =
     let s = or-false (ltb (degree f) 2) (ltb limit (degree f)) e in
     let l : 2 ≤ degree f = ltb-false (degree f) 2 (s .0) in

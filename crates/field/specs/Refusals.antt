@@ -11,7 +11,7 @@ use mathlib.Core.List.{List, [], _∷_}
 use Prim.Native.Nat.{ℕ, _^_}
 use lib.Dec.{leb}
 use Rattle.gf2.specs.Poly.{degree}
-use Rattle.field.specs.Accepted.{outOfRange, divided, strays}
+use Rattle.field.specs.Accepted.{degreeOutside, divided, strays}
 
 pub record Rule : Type 0 where
   pub number : ℕ
@@ -36,7 +36,7 @@ numberOf (refuse k p) = k
 
 -- "degree of f below 2 or above 46, zero polynomial included"
 abbrev pub degreeRule : (f : ℕ) → Rule
-degreeRule f = record { number = 1; place = 0; applies = outOfRange f }
+degreeRule f = record { number = 1; place = 0; applies = degreeOutside f }
 
 -- "some polynomial of degree 1 to n-1 divides f"
 abbrev pub divisorRule : (f : ℕ) → Rule
@@ -54,17 +54,17 @@ anyTooLarge n [] = false
 anyTooLarge n (a ∷ values) = tooLarge n a || anyTooLarge n values
 
 -- "an element, coordinate number or range end is 2^n or more", where the values are no list of the caller's: place 0
-abbrev pub sizeRule : (n : ℕ) → List ℕ → Rule
-sizeRule n values = record { number = 4; place = 0; applies = anyTooLarge n values }
+abbrev pub elementRule : (n : ℕ) → List ℕ → Rule
+elementRule n values = record { number = 4; place = 0; applies = anyTooLarge n values }
 
 -- ---- the orders
 
 -- "Multiply, square: 1, 4."
 abbrev pub multiplyOrder : (f a b : ℕ) → List Rule
-multiplyOrder f a b = degreeRule f ∷ sizeRule (degree f) (a ∷ b ∷ []) ∷ []
+multiplyOrder f a b = degreeRule f ∷ elementRule (degree f) (a ∷ b ∷ []) ∷ []
 
 abbrev pub squareOrder : (f a : ℕ) → List Rule
-squareOrder f a = degreeRule f ∷ sizeRule (degree f) (a ∷ []) ∷ []
+squareOrder f a = degreeRule f ∷ elementRule (degree f) (a ∷ []) ∷ []
 
 -- 2 and 3, which every call that needs an accepted f tests together
 abbrev pub fieldOrder : (f : ℕ) → List Rule
@@ -72,7 +72,7 @@ fieldOrder f = divisorRule f ∷ returnRule f ∷ []
 
 -- "Trace: 1, 4, 2, 3."
 abbrev pub traceOrder : (f a : ℕ) → List Rule
-traceOrder f a = degreeRule f ∷ sizeRule (degree f) (a ∷ []) ∷ fieldOrder f
+traceOrder f a = degreeRule f ∷ elementRule (degree f) (a ∷ []) ∷ fieldOrder f
 
 -- "Check of f: 1, 2, 3."
 abbrev pub checkOrder : (f : ℕ) → List Rule

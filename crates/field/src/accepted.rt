@@ -5,21 +5,20 @@ ghost use Prim.Native.Nat.{_/_, _^_, _≤_, _<_};
 ghost use Rattle.gf2.specs.Poly.{Degree};
 ghost use Rattle.gf2.specs.Spread.{SpreadTable};
 ghost use Rattle.field.specs.Field.{squared};
-ghost use Rattle.field.specs.Accepted.{limit, outOfRange, divided};
+ghost use Rattle.gf2.specs.Limit.{limit};
+ghost use Rattle.field.specs.Accepted.{degreeOutside, divided};
 ghost use Rattle.field.specs.Refusals.{firstOf, numberOf, fieldOrder, tooLarge};
+use gf2::LIMIT;
 use gf2::degree_of;
 use gf2::greatest_common;
 use gf2::square;
 
-// The largest degree.
-pub const LIMIT: u32 = 46;
-
 // Refusal 1: the degree of f is not 2 to LIMIT.
-pub fn out_of_range(f: u64) -> bool
-    ensures { λ r. ⌜ r ≡ outOfRange f ⌝ }
+pub fn degree_outside(f: u64) -> bool
+    ensures { λ r. ⌜ r ≡ degreeOutside f ⌝ }
 {
     let n = degree_of(f);
-    n < 2 || LIMIT < n
+    n < 2 || LIMIT < n as usize
 }
 
 // Refusal 4: a is no element of a field of degree n.

@@ -1,6 +1,6 @@
 // What the calls answer. A refusal carries its number and place and no value (document 01, "Refusal numbers").
 
-// A row of the refusal table: its number, and the place of what it refuses (0 where the table names none).
+// The number of a row of the refusal table, and the place of what is refused (0 where the table names none).
 pub struct Refusal {
     pub number: u8,
     pub place: usize,

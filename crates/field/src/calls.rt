@@ -3,11 +3,11 @@ ghost use mathlib.Core.Path.{_≡_};
 ghost use Prim.Native.Nat.{_^_, _≤_, _<_};
 ghost use Rattle.gf2.specs.Poly.{Degree};
 ghost use Rattle.gf2.specs.Spread.{SpreadTable};
-ghost use Rattle.field.specs.Accepted.{limit};
+ghost use Rattle.gf2.specs.Limit.{limit};
 ghost use Rattle.field.specs.Field.{trace};
-ghost use Rattle.field.specs.Answers.{refusalAt, valueNumbers, checkedNumbers, multiplyAnswer, multiplyNumbers, squareAnswer, squareNumbers, traceAnswer, traceNumbers, checkAnswer, checkNumbers};
+ghost use Rattle.field.specs.Answers.{refusalAt, valueReport, checkedReport, multiplyAnswer, multiplyReport, squareAnswer, squareReport, traceAnswer, traceReport, checkAnswer, checkReport};
+use super::accepted::degree_outside;
 use super::accepted::field_refusal;
-use super::accepted::out_of_range;
 use super::accepted::too_large;
 use super::answer::Checked;
 use super::answer::Refusal;
@@ -25,9 +25,9 @@ fn refusal(number: u8) -> Refusal
 // a times b modulo f.
 pub fn multiply(f: u64, a: u64, b: u64) -> Value
     ensures answer { λ r. ⌜ r ≡ multiplyAnswer f a b ⌝ }
-    ensures numbers { λ r. ⌜ valueNumbers r ≡ multiplyNumbers f a b ⌝ }
+    ensures report { λ r. ⌜ valueReport r ≡ multiplyReport f a b ⌝ }
 {
-    if out_of_range(f) {
+    if degree_outside(f) {
         return Value::Refused(refusal(1));
     }
     let n = degree_of(f);
@@ -43,9 +43,9 @@ pub fn multiply(f: u64, a: u64, b: u64) -> Value
 // a times a modulo f.
 pub fn square(f: u64, a: u64) -> Value
     ensures answer { λ r. ⌜ r ≡ squareAnswer f a ⌝ }
-    ensures numbers { λ r. ⌜ valueNumbers r ≡ squareNumbers f a ⌝ }
+    ensures report { λ r. ⌜ valueReport r ≡ squareReport f a ⌝ }
 {
-    if out_of_range(f) {
+    if degree_outside(f) {
         return Value::Refused(refusal(1));
     }
     let n = degree_of(f);
@@ -75,9 +75,9 @@ fn conjugates_sum(table: &[u16; 256], f: u64, n: u32, a: u64) -> u64
 // The trace of a.
 pub fn trace(f: u64, a: u64) -> Value
     ensures answer { λ r. ⌜ r ≡ traceAnswer f a ⌝ }
-    ensures numbers { λ r. ⌜ valueNumbers r ≡ traceNumbers f a ⌝ }
+    ensures report { λ r. ⌜ valueReport r ≡ traceReport f a ⌝ }
 {
-    if out_of_range(f) {
+    if degree_outside(f) {
         return Value::Refused(refusal(1));
     }
     let n = degree_of(f);
@@ -95,9 +95,9 @@ pub fn trace(f: u64, a: u64) -> Value
 // Whether f is accepted.
 pub fn check(f: u64) -> Checked
     ensures answer { λ r. ⌜ r ≡ checkAnswer f ⌝ }
-    ensures numbers { λ r. ⌜ checkedNumbers r ≡ checkNumbers f ⌝ }
+    ensures report { λ r. ⌜ checkedReport r ≡ checkReport f ⌝ }
 {
-    if out_of_range(f) {
+    if degree_outside(f) {
         return Checked::Refused(refusal(1));
     }
     let n = degree_of(f);

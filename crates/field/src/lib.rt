@@ -3,9 +3,8 @@ mod accepted;
 mod answer;
 mod calls;
 
-pub use accepted::LIMIT;
+pub use accepted::degree_outside;
 pub use accepted::field_refusal;
-pub use accepted::out_of_range;
 pub use accepted::squared_times;
 pub use accepted::too_large;
 pub use answer::Checked;

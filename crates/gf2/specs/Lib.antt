@@ -11,3 +11,4 @@ pub mod Spread
 pub mod Euclid
 pub mod Words
 pub mod Steps
+pub mod Limit

@@ -6,6 +6,7 @@ mod multiplication;
 mod spread;
 mod squaring;
 
+pub use degree::LIMIT;
 pub use degree::degree_of;
 pub use division::picked;
 pub use division::remainder;
