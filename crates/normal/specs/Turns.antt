@@ -1,0 +1,117 @@
+-- One turn of each loop over rows and coordinates, as laws on numbers and lists: the list of conjugates, the count of ones, the test
+-- for a prime, the product by turns.
+--
+--   rotatedBy n i v   v rotated i times; n times is v itself
+--
+-- Assumes nothing.
+use mathlib.Core.Path.{_≡_, sym, ap, _∙_}
+use mathlib.Core.Bool.{Bool, true, false, _&&_}
+use mathlib.Core.List.{List, [], _∷_, _++_}
+use Prim.Native.Nat.{ℕ, zero, suc, _+_, _-_, _*_, _/_, _%_, _^_, _≤_, _<_}
+use native.Mathlib.Nat.{add-zero, zero-add, add-assoc, suc-mul, mod-lt, mod-eq-of-lt, mod-add-mod, add-mul-mod-self-right, mul-comm, sub-add-cancel}
+use native.Mathlib.Numerals.{add-one}
+use native.Mathlib.Omega.{arith}
+use lib.Count.{ones}
+use lib.Dec.{ltb, eqb}
+use lib.ListN.{length, getD, take}
+use lib.Pow.{shr-shr}
+use lib.Seq.{ext-getD, take-suc}
+use borrow.Author.Tests.{lt-ltb, ltb-true, eq-eqb, eqb-true}
+use Rattle.gf2.specs.Poly.{_⊕_}
+use Rattle.gf2.specs.Sum.{⊕-comm}
+use Rattle.gf2.specs.Bounded.{some, some-means, none-means}
+use Rattle.field.specs.Field.{squared}
+use Rattle.rows.specs.Rows.{comb}
+use Rattle.rows.specs.Bits.{bitOf}
+use Rattle.rows.specs.Decision.{and-both, and-parts}
+use Rattle.normal.specs.Normal.{conjugates, listed, complexity}
+use Rattle.normal.specs.TableProduct.{rotate}
+use Rattle.normal.specs.Grades.{prime}
+use Rattle.normal.specs.Rotation.{rotate-lt, rotateBack-rotate, rotate-bit}
+use Rattle.normal.specs.Selected.{conjugates-at, conjugates-length}
+use Rattle.normal.specs.Coordinates.{listed-at, listed-length}
+use Rattle.normal.specs.Products.{hornerProduct}
+use Rattle.normal.specs.ProductBits.{bits-ext}
+
+-- ---- conjugates
+
+pub conjugates-listed : (f n a : ℕ) → conjugates f n a ≡ listed n (λ i. squared f n i a)
+conjugates-listed f n a =
+    let size : length (conjugates f n a) ≡ n = conjugates-length f n a in
+    ext-getD 0 (conjugates f n a) (listed n (λ i. squared f n i a)) (size ∙ sym (listed-length n (λ i. squared f n i a)))
+    (λ i l. let h : i < n = omega arith in conjugates-at f n i a h ∙ sym (listed-at n (λ i. squared f n i a) i h))
+
+-- ---- the count of ones
+
+complexity-append : (l : List ℕ) (r : ℕ) → complexity (l ++ (r ∷ [])) ≡ complexity l + ones r
+unfolding complexity
+complexity-append [] r = add-zero (ones r) ∙ sym (zero-add (ones r))
+complexity-append (x ∷ l) r = ap (λ (k : ℕ). ones x + k) (complexity-append l r) ∙ sym (add-assoc (ones x) (complexity l) (ones r))
+
+pub complexity-turn : (rows : List ℕ) (i : ℕ) → i < length rows → complexity (take (i + 1) rows) ≡ complexity (take i rows) + ones (getD rows i 0)
+complexity-turn rows i h = rw (add-one, take-suc rows i 0 h) (complexity-append (take i rows) (getD rows i 0))
+
+-- ---- primes
+
+divisor : ℕ → ℕ → Bool
+divisor p d = ltb 1 d && eqb (p % d) 0
+
+pub prime-false : (p d : ℕ) → 1 < p → 1 < d → d < p → p % d ≡ 0 → false ≡ prime p
+unfolding prime divisor
+prime-false p d hp hd l e =
+    let s : some p (divisor p) ≡ true = some-means p (divisor p) .1 (d, l, and-both (ltb 1 d) (eqb (p % d) 0) (lt-ltb 1 d hd) (eq-eqb (p % d) 0 e)) in
+    sym (rw (lt-ltb 1 p hp, s))
+
+pub prime-true : (p : ℕ) → 1 < p → ((d : ℕ) → 1 < d → d < p → p % d ≡ 0 → ⊥) → true ≡ prime p
+unfolding prime divisor
+prime-true p hp none =
+    let s : some p (divisor p) ≡ false = none-means p (divisor p) .1 (λ d l e.
+    let b = and-parts (ltb 1 d) (eqb (p % d) 0) e in
+    none d (ltb-true 1 d (b .0)) l (eqb-true (p % d) 0 (b .1))) in
+    sym (rw (lt-ltb 1 p hp, s))
+
+-- ---- rotations in a row
+
+unfoldable pub rotatedBy : (n i v : ℕ) → ℕ
+rotatedBy n zero v = v
+rotatedBy n (suc i) v = rotate n (rotatedBy n i v)
+
+module _ (n : ℕ) (pos : 1 ≤ n) where
+  pub rotatedBy-lt : (i v : ℕ) → v < 2 ^ n → rotatedBy n i v < 2 ^ n
+  unfolding rotatedBy
+  rotatedBy-lt zero v h = h
+  rotatedBy-lt (suc i) v h = rotate-lt n pos (rotatedBy n i v) (rotatedBy-lt i v h)
+
+  rotatedBy-bit : (i v k : ℕ) → v < 2 ^ n → k < n → bitOf (rotatedBy n i v) k ≡ bitOf v ((k + i * (n - 1)) % n)
+  unfolding rotatedBy
+  rotatedBy-bit zero v k hv hk = ap (bitOf v) (sym (rw (zero-times (n - 1), add-zero) (mod-eq-of-lt hk)))
+    where
+      zero-times : (m : ℕ) → 0 * m ≡ 0
+      zero-times m = omega arith
+  rotatedBy-bit (suc i) v k hv hk =
+      let e : k + (n - 1) + i * (n - 1) ≡ k + suc i * (n - 1) = next (n - 1) in
+      rotate-bit n pos (rotatedBy n i v) k (rotatedBy-lt i v hv) hk
+      ∙ rotatedBy-bit i v ((k + (n - 1)) % n) hv (mod-lt (k + (n - 1)) pos)
+      ∙ ap (bitOf v) (mod-add-mod (k + (n - 1)) n (i * (n - 1)) ∙ ap (λ (x : ℕ). x % n) e)
+    where
+      next : (m : ℕ) → k + m + i * m ≡ k + suc i * m
+      next m = rw suc-mul (omega arith)
+
+  -- n rotations are none
+  pub rotatedBy-round : (v : ℕ) → v < 2 ^ n → rotatedBy n n v ≡ v
+  rotatedBy-round v h =
+      bits-ext n (rotatedBy n n v) v (rotatedBy-lt n v h) h
+      (λ k hk. rotatedBy-bit n v k h hk ∙ ap (bitOf v) (ap (λ (x : ℕ). (k + x) % n) (mul-comm n (n - 1)) ∙ add-mul-mod-self-right k (n - 1) n ∙ mod-eq-of-lt hk))
+
+  -- ---- the product by turns
+
+  -- bit i of a is taken, with the coordinates rotated once more
+  pub horner-turn : (T : List ℕ) (i a product turned : ℕ) → 0 < i → i ≤ n → turned < 2 ^ n
+      → product ≡ hornerProduct n T (n - i) (a / 2 ^ i) turned
+      → rotate n product ⊕ (a / 2 ^ (i - 1) % 2) * comb T (rotate n turned) ≡ hornerProduct n T (n - (i - 1)) (a / 2 ^ (i - 1)) (rotate n turned)
+  unfolding hornerProduct
+  horner-turn T i a product turned p l h e =
+      let s : n - (i - 1) ≡ suc (n - i) = omega arith in
+      let back : i - 1 + 1 ≡ i = sub-add-cancel p in
+      let half : a / 2 ^ (i - 1) / 2 ≡ a / 2 ^ i = shr-shr a (i - 1) 1 ∙ ap (λ (x : ℕ). a / 2 ^ x) back in
+      rw (s, half, rotateBack-rotate n pos turned h, ← e) (⊕-comm (rotate n product) _)

@@ -1,0 +1,36 @@
+// The product of normal coordinates, through a table's rows as they stand.
+ghost use mathlib.Core.Path.{_≡_};
+ghost use Prim.Native.Nat.{_^_, _≤_, _<_};
+ghost use lib.ListN.{take};
+ghost use Rattle.gf2.specs.Limit.{limit};
+ghost use Rattle.rows.specs.Rows.{Matrix};
+ghost use Rattle.normal.specs.TableProduct.{rotate, tableProduct};
+use gf2::LIMIT;
+use gf2::picked;
+use rows::sum;
+
+// Bit i goes to i + 1, and bit n - 1 to 0.
+pub fn rotated(n: u32, v: u64) -> u64
+    requires { ⌜ (1 ≤ n) × (n ≤ limit) × (v < 2 ^ n) ⌝ }
+    ensures { λ r. ⌜ r ≡ rotate n v ⌝ }
+{
+    let up = v << 1;
+    up % (1u64 << n) + (up >> n)
+}
+
+// The product of a and b. Bit i of a is taken from the highest down: what is summed so far is rotated, and the rows that b picks,
+// rotated as often as is left, are added.
+pub fn product_of(table: [u64; LIMIT], n: u32, a: u64, b: u64) -> u64
+    requires { ⌜ (1 ≤ n) × (n ≤ limit) × Matrix table n × (a < 2 ^ n) × (b < 2 ^ n) ⌝ }
+    ensures { λ r. ⌜ r ≡ tableProduct n (take n table) a b ⌝ }
+{
+    let mut product: u64 = 0;
+    let mut turned = b;
+    let mut i = n;
+    while i > 0 {
+        i -= 1;
+        turned = rotated(n, turned);
+        product = rotated(n, product) ^ picked((a >> i) % 2, sum(&table, turned));
+    }
+    product
+}
