@@ -1,16 +1,17 @@
 -- Laws of divisors: what d divides, it divides the sums and multiples of; d divides a exactly if the remainder is 0; the
--- degrees of two factors; no polynomial but 1 divides 1.
+-- degrees of two factors; no polynomial but 1 divides 1; a divisor of a polynomial other than 0 is neither 0 nor larger.
 -- Assumes nothing.
 use mathlib.Core.Path.{_≡_, sym, ap, ap₂, _∙_}
-use mathlib.Core.Logic.{_↔_}
+use mathlib.Core.Logic.{_⊎_, inl, inr, _↔_, ⊎-elim}
 use mathlib.Core.Bool.{true}
 use Prim.Native.Nat.{ℕ, _+_, _^_, _≤_, _<_}
 use native.Mathlib.Omega.{arith}
 use lib.Pow.{pow-mono}
 use borrow.Author.Tests.{eq-eqb, eqb-true}
 use Rattle.gf2.specs.Poly.{_⊕_, product, degree, rem, Degree, Divides, divides}
+use Rattle.gf2.specs.Numbers.{order, zero-one-more}
 use Rattle.gf2.specs.Sum.{⊕-zero}
-use Rattle.gf2.specs.Product.{product-zero-l, product-one-l, product-⊕-l, product-assoc}
+use Rattle.gf2.specs.Product.{product-zero-l, product-zero-r, product-one-l, product-⊕-l, product-assoc, product-comm}
 use Rattle.gf2.specs.Remainder.{rem-small, rem-quotient, rem-multiple}
 use Rattle.gf2.specs.Degrees.{degree-is, degree-unique, degree-pos, degree-product}
 
@@ -87,3 +88,35 @@ divides-one h l v =
     let m : 1 ≤ degree h = degree-pos h (degree h) l d in
     let z : _≡_ {A = ℕ} 1 0 = sym (rem-small h (degree h) 1 (omega (arith, pow-mono m))) ∙ divides-rem h (degree h) 1 d v in
     omega arith
+
+-- ---- a divisor of a polynomial other than 0
+
+pub divides-pos : (d a : ℕ) → 0 < a → Divides d a → 0 < d
+divides-pos d a h v =
+    ⊎-elim
+    (λ (l : d < 1).
+    let u : d ≡ 0 = omega arith in
+    let z : 0 ≡ a = sym (product-zero-r (v .0)) ∙ ap (product (v .0)) (sym u) ∙ v .1 in
+    absurd (omega arith))
+    (λ (l : 1 ≤ d). l)
+    (order d 1)
+
+pub divides-le : (d a : ℕ) → 0 < a → Divides d a → d ≤ a
+divides-le d a h v = cases (zero-one-more d) (zero-one-more q)
+  where
+    q : ℕ
+    q = v .0
+
+    deg : Degree a (degree a)
+    deg = degree-is a h
+
+    cases : (d ≡ 0) ⊎ ((d ≡ 1) ⊎ (2 ≤ d)) → (q ≡ 0) ⊎ ((q ≡ 1) ⊎ (2 ≤ q)) → d ≤ a
+    cases (inl u) w = omega arith
+    cases (inr (inl u)) w = omega arith
+    cases (inr (inr u)) (inl w) =
+        let z : 0 ≡ a = sym (product-zero-l d) ∙ ap (λ (x : ℕ). product x d) (sym w) ∙ v .1 in
+        absurd (omega arith)
+    cases (inr (inr u)) (inr (inl w)) =
+        let z : d ≡ a = sym (product-one-l d) ∙ ap (λ (x : ℕ). product x d) (sym w) ∙ v .1 in
+        omega arith
+    cases (inr (inr u)) (inr (inr w)) = omega (arith, deg .low, factor-lt d q a (degree a) deg (product-comm d q ∙ v .1) u w)

@@ -1,12 +1,13 @@
 -- The greatest common divisor, and the laws of Euclid's steps: a step keeps the common divisors; the last divisor is the
--- greatest; there is one only.
+-- greatest; of two polynomials, the first of which is not 0, there is one only.
 -- Assumes nothing.
 use mathlib.Core.Path.{_≡_, ap, _∙_}
-use Prim.Native.Nat.{ℕ}
+use Prim.Native.Nat.{ℕ, _≤_, _<_}
+use native.Mathlib.Omega.{arith}
 use Rattle.gf2.specs.Poly.{_⊕_, product, rem, Divides}
 use Rattle.gf2.specs.Sum.{⊕-cancel}
 use Rattle.gf2.specs.Remainder.{rem-quotient}
-use Rattle.gf2.specs.Divisors.{divides-self, divides-zero, divides-⊕, divides-product}
+use Rattle.gf2.specs.Divisors.{divides-self, divides-zero, divides-⊕, divides-product, divides-pos, divides-le}
 
 -- g divides a and b, and what divides both divides g
 pub record GreatestCommon (a b g : ℕ) : Type 0 where
@@ -39,3 +40,10 @@ pub same-done : (a b u v : ℕ) → v ≡ 0 → SameDivisors a b u v → Greates
 same-done a b u v e s =
     let p = s .up u (divides-self u) (rw e (divides-zero u)) in
     record { left = p .0; right = p .1; greatest = λ h x y. s .down h x y .0 }
+
+-- each divides the other, so neither is larger
+pub greatest-unique : (a b g h : ℕ) → 0 < a → GreatestCommon a b g → GreatestCommon a b h → g ≡ h
+greatest-unique a b g h pos s t =
+    let below : g ≤ h = divides-le g h (divides-pos h a pos (t .left)) (t .greatest g (s .left) (s .right)) in
+    let above : h ≤ g = divides-le h g (divides-pos g a pos (s .left)) (s .greatest h (t .left) (t .right)) in
+    omega arith
