@@ -154,7 +154,7 @@ product-square-⊕ a b =
 pub product-square-parts : (a k b : ℕ) → b < 2 ^ k → product (a * 2 ^ k + b) (a * 2 ^ k + b) ≡ product a a * 2 ^ (k + k) ⊕ product b b
 product-square-parts a k b h = rw (← ⊕-low a k b h, product-square-⊕, product-shift-l, product-shift-r, pow-add, mul-assoc)
 
-spread-step : (a : ℕ) → spread a ≡ spread (a / 2) * 4 + a % 2
+pub spread-step : (a : ℕ) → spread a ≡ spread (a / 2) * 4 + a % 2
 unfolding spread
 spread-step a = digits-step 0 (λ d r. r * 4 + d) refl a
 
