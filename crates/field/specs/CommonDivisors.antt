@@ -12,10 +12,10 @@ use Rattle.gf2.specs.Poly.{_⊕_, product, degree, rem, mulMod, Degree, Divides
 use Rattle.gf2.specs.Numbers.{order, zero-one-more}
 use Rattle.gf2.specs.Bounded.{bool-cases}
 use Rattle.gf2.specs.Sum.{zero-⊕, ⊕-self, ⊕-lt, ⊕-eq-zero}
-use Rattle.gf2.specs.Product.{product-zero-r, product-one-l}
+use Rattle.gf2.specs.Product.{product-one-l}
 use Rattle.gf2.specs.Degrees.{degree-is}
 use Rattle.gf2.specs.Remainder.{rem-lt, rem-small, rem-⊕, rem-product-l, rem-product-r, rem-quotient}
-use Rattle.gf2.specs.Divisors.{divides-product, divides-rem, rem-divides, divides-one}
+use Rattle.gf2.specs.Divisors.{divides-product, divides-rem, rem-divides, divides-one, divides-pos}
 use Rattle.gf2.specs.Euclid.{GreatestCommon}
 use Rattle.field.specs.Field.{squared, Irreducible}
 use Rattle.field.specs.Accepted.{divided}
@@ -108,9 +108,7 @@ module _ (f n : ℕ) (deg : Degree f n) where
     pub common-found : (g ≡ 1 → ⊥) → (h : ℕ) × Common f n i h
     common-found e =
         ⊎-elim
-        (λ (u : g ≡ 0).
-        let z : f ≡ 0 = sym (s .left .1) ∙ ap (product (s .left .0)) u ∙ product-zero-r _ in
-        absurd (omega (arith, deg .low, pow-pos n)))
+        (λ (u : g ≡ 0). absurd (omega (arith, divides-pos g f (omega (arith, deg .low, pow-pos n)) (s .left))))
         (⊎-elim
         (λ (u : g ≡ 1). absurd (e u))
         (λ (u : 2 ≤ g). (g, record { from = from; to = to; two = u; divides = s .left; divides-x = s .right })))

@@ -13,3 +13,4 @@ pub mod Fermat
 pub mod Divided
 pub mod CommonDivisors
 pub mod Orders
+pub mod Checked

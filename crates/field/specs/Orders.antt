@@ -2,7 +2,7 @@
 -- answer with its numbers; what the conditions 1 and 4 leave where they do not apply.
 -- Assumes nothing.
 use mathlib.Core.Path.{_≡_, refl, sym, ap, _∙_}
-use mathlib.Core.Logic.{⊎-elim}
+use mathlib.Core.Logic.{_⊎_, inl, inr, ⊎-elim}
 use mathlib.Core.Bool.{Bool, true, false, _||_}
 use mathlib.Core.List.{List, [], _∷_}
 use Prim.Native.Nat.{ℕ, _^_, _≤_, _<_}
@@ -11,6 +11,7 @@ use lib.Dec.{ltb}
 use borrow.Author.Tests.{ltb-false, leb-false}
 use Rattle.gf2.specs.Poly.{degree, Degree}
 use Rattle.gf2.specs.Numbers.{order}
+use Rattle.gf2.specs.Bounded.{bool-cases}
 use Rattle.gf2.specs.Degrees.{degree-is, degree-zero}
 use Rattle.gf2.specs.Limit.{limit}
 use Rattle.field.specs.Accepted.{degreeOutside, divided, strays}
@@ -24,6 +25,9 @@ use Rattle.field.specs.declared.answer.Checked.the-variants as checked
 
 -- ---- along an order
 
+refuse-not-clear : (k p : ℕ) → refuse k p ≡ clear → ⊥
+refuse-not-clear k p e = let z : _≡_ {A = ℕ} 0 1 = cc in omega arith
+
 pub first-applies : (r : Rule) (rs : List Rule) → r .applies ≡ true → firstOf (r ∷ rs) ≡ refuse (r .number) (r .place)
 unfolding firstOf
 first-applies r rs e = rw e
@@ -35,6 +39,14 @@ first-passes r rs e = rw e
 pub first-none : firstOf [] ≡ clear
 unfolding firstOf
 first-none = refl
+
+-- an order finds nothing only where its first condition does not apply and the rest of it finds nothing
+pub first-clear : (r : Rule) (rs : List Rule) → firstOf (r ∷ rs) ≡ clear → (r .applies ≡ false) × (firstOf rs ≡ clear)
+first-clear r rs e = go (bool-cases (r .applies))
+  where
+    go : (r .applies ≡ true) ⊎ (r .applies ≡ false) → (r .applies ≡ false) × (firstOf rs ≡ clear)
+    go (inl a) = absurd (refuse-not-clear (r .number) (r .place) (sym (first-applies r rs a) ∙ e))
+    go (inr a) = (a, sym (first-passes r rs a) ∙ e)
 
 -- conditions 2 and 3 by their number alone
 pub field-clear : (f k : ℕ) → k ≡ numberOf (firstOf (fieldOrder f)) → k ≡ 0 → firstOf (fieldOrder f) ≡ clear
@@ -77,6 +89,12 @@ unfolding checkedOf
 checked-refused {v} k {r} e p =
     let a : checked.Refused r ≡ checkedOf v = rw (p, e) in
     (a, ap checkedReport a ∙ checked-report v)
+
+-- only an order that finds nothing is done
+pub checked-clear : (v : Verdict) → checkedOf v ≡ checked.Done → v ≡ clear
+unfolding checkedOf
+checked-clear clear e = refl
+checked-clear (refuse k p) e = let z : _≡_ {A = ℕ} 0 1 = cc in absurd (omega arith)
 
 pub checked-done : {v : Verdict} → v ≡ clear → (checked.Done ≡ checkedOf v) × (checkedReport checked.Done ≡ reportOf v 0)
 unfolding checkedOf
