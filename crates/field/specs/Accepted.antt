@@ -1,10 +1,10 @@
 -- When f is accepted (document 01, "Two notations"): "its degree n is 2 to 46, no polynomial of degree 1 to n-1 divides it,
 -- and x squared n times in a row leaves x modulo f." Each of the three is a test of its own, named after its refusal.
 --
---   degreeOutside f    refusal 1
---   divided f n     refusal 2; `divided-means` (in `Divided`) says it for every d
---   strays f n      refusal 3
---   Accepted f      none of them
+--   degreeOutside f   refusal 1
+--   divided f n       refusal 2; `divided-means` (in `Divided`) says it for every d
+--   strays f n        refusal 3
+--   Accepted f        none of them; `check-accepts` (in `Checked`): the check is done exactly for these
 --
 -- Assumes nothing.
 use mathlib.Core.Path.{_≡_}

@@ -1,11 +1,11 @@
 -- What a call answers: the case of its enum, and document 01's number, place and value for each case.
 --
---   Report                   the paper's reading of an answer
---   reportOf v x                  the numbers that an order's verdict gives a call whose value is x
---   refusalAt k p             the refusal with number k and place p
---   valueOf, checkedOf        the case of the enum that it gives
---   valueReport, ..          the numbers of a case; `value-report`, `checked-report`: they are those of the verdict
---   ..Answer, ..Report       the four field calls, as functions of their inputs
+--   Report                the paper's reading of an answer
+--   reportOf v x          the numbers that an order's verdict gives a call whose value is x
+--   refusalAt k p         the refusal with number k and place p
+--   valueOf, checkedOf    the case of the enum that it gives
+--   valueReport, ..       the numbers of a case; `value-report`, `checked-report`: they are those of the verdict
+--   ..Answer, ..Report    the four field calls, as functions of their inputs
 --
 -- Assumes nothing.
 use mathlib.Core.Path.{_≡_, refl}
@@ -24,7 +24,7 @@ pub record Report : Type 0 where
   pub place : ℕ
   pub value : ℕ
 
--- "Done is 0 with place 0." "A refusal's other values are zero."
+-- "Done is 0 with place 0." "A refusal's other values are zero; every lent buffer and list stays as it came."
 unfoldable pub reportOf : Verdict → ℕ → Report
 reportOf clear x = record { number = 0; place = 0; value = x }
 reportOf (refuse k p) x = record { number = k; place = p; value = 0 }

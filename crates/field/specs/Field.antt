@@ -1,9 +1,9 @@
 -- The polynomials modulo f, of degree n: what document 01, "Two notations", says of them beyond multiplication.
 -- Definitions alone; the laws stand in the files beside this one.
 --
---   squared f n k a   a squared k times in a row: the conjugate c_k of a
+--   squared f n k a   a squared k times in a row: the conjugate c_k of a, where a is below 2 ^ n
 --   powMod f n a e    the power of a with exponent e; c_k is the one with exponent 2 ^ k (`powMod-squared`)
---   trace f n a       the sum of all n conjugates
+--   trace f n a       the sum of all n conjugates, where a is below 2 ^ n
 --   Irreducible f     f is no product of two polynomials other than 1
 --
 -- Assumes nothing.
@@ -12,7 +12,8 @@ use mathlib.Core.Logic.{_⊎_}
 use Prim.Native.Nat.{ℕ, zero, suc}
 use Rattle.gf2.specs.Poly.{_⊕_, product, mulMod}
 
--- "The conjugates of a are c_i = a^(2^i) for i from 0 to n-1", each the square of the one before
+-- "The conjugates of a are c_i = a^(2^i) for i from 0 to n-1", each the square of the one before. c_0 is a as it stands, so a has
+-- to be an element, below 2 ^ n.
 unfoldable pub squared : (f n k a : ℕ) → ℕ
 squared f n zero a = a
 squared f n (suc k) a = squared f n k (mulMod f n a a)
@@ -30,6 +31,6 @@ traceTo f n (suc k) a = traceTo f n k a ⊕ squared f n k a
 unfoldable pub trace : (f n a : ℕ) → ℕ
 trace f n a = traceTo f n n a
 
--- one of any two factors is 1
+-- one of any two factors is 1. It holds of the polynomial 1 too; laws that must leave it out ask for a degree from 1 upward.
 pub record Irreducible (f : ℕ) : Type 0 where
   pub only : (a b : ℕ) → product a b ≡ f → (a ≡ 1) ⊎ (b ≡ 1)

@@ -1,5 +1,5 @@
 -- Laws of orders and answers: how a call's path through its conditions gives the first that applies, and how that gives the
--- answer with its numbers; what the conditions 1 and 4 leave where they do not apply.
+-- answer with its numbers; what the conditions 1 and 4 leave where they do not apply. What the check's answer means: `Checked`.
 -- Assumes nothing.
 use mathlib.Core.Path.{_≡_, refl, sym, ap, _∙_}
 use mathlib.Core.Logic.{_⊎_, inl, inr, ⊎-elim}

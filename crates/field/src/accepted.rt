@@ -43,13 +43,14 @@ pub fn squared_times(table: &[u16; 256], f: u64, n: u32, k: u32, a: u64) -> u64
     y
 }
 
-// Whether f is divided, and where it is not, what x has become half way through its n squarings.
+// Whether f is divided; and what x has become half way through its n squarings, or 0 where f is divided.
 pub struct Halfway {
     pub divided: bool,
     pub conjugate: u64,
 }
 
-// f has a divisor exactly if it has one in common with x^(2^i) + x for some i from 1 to n/2.
+// f, of degree n, has a divisor of degree 1 to n-1 exactly if, for some i from 1 to n/2, f and x^(2^i) + x have a common divisor
+// other than 1.
 fn squared_half(table: &[u16; 256], f: u64, n: u32) -> Halfway
     requires { ⌜ SpreadTable (now table) × (2 ≤ n) × (n ≤ limit) × Degree f n ⌝ }
     ensures { λ r. ⌜ (r .divided ≡ divided f n) × (r .conjugate ≡ cond (divided f n) 0 (squared f n (n / 2) 2)) ⌝ }

@@ -46,7 +46,7 @@ pub record Degree (a n : ℕ) : Type 0 where
 unfoldable pub degree : ℕ → ℕ
 degree a = digits 0 (λ d r. r + 1) a - 1
 
--- "reduced modulo f", where one coefficient at most stands above the degree n of f: it is taken away with f
+-- "reduced modulo f", where no coefficient of y stands above that of x ^ n: that one, if it is there, is taken away with f
 unfoldable pub reduce : (f n y : ℕ) → ℕ
 reduce f n y = cond (ltb y (2 ^ n)) y (y ⊕ f)
 
@@ -54,7 +54,7 @@ reduce f n y = cond (ltb y (2 ^ n)) y (y ⊕ f)
 unfoldable pub rem : (f n a : ℕ) → ℕ
 rem f n a = digits 0 (λ d r. reduce f n (r * 2 + d)) a
 
--- multiplication in the field of degree n that f defines
+-- multiplication modulo f, which may be reducible: the product, "reduced modulo f"
 unfoldable pub mulMod : (f n a b : ℕ) → ℕ
 mulMod f n a b = rem f n (product a b)
 

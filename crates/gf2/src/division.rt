@@ -12,7 +12,7 @@ pub fn picked(bit: u64, row: u64) -> u64
 }
 
 // The remainder modulo f, of degree n, of a polynomial y with no coefficient from width upward: a walk down over the
-// coefficients from width to n, each taken away with f.
+// coefficients from width - 1 down to n, each taken away with f.
 pub fn remainder(f: u64, n: u32, width: u32, y: u64) -> u64
     requires { ⌜ (width ≤ 64) × Degree f n × (y < 2 ^ width) ⌝ }
     ensures { λ r. ⌜ r ≡ rem f n y ⌝ }
