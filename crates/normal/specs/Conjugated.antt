@@ -3,9 +3,9 @@
 -- Assumes nothing.
 use mathlib.Core.Path.{_≡_, refl, sym, ap, ap₂, _∙_}
 use mathlib.Core.Logic.{⊎-elim}
-use mathlib.Core.List.{List, [], _∷_}
+use mathlib.Core.List.{List, _∷_}
 use Prim.Native.Nat.{ℕ, zero, suc, _+_, _-_, _*_, _^_, _≤_, _<_}
-use native.Mathlib.Nat.{pow-suc}
+use native.Mathlib.Nat.{one-mul, pow-suc}
 use native.Mathlib.Omega.{arith}
 use lib.Pow.{pow-pos, pow-mono}
 use Rattle.gf2.specs.Poly.{_⊕_, mulMod, Degree}
@@ -71,12 +71,9 @@ module _ (f n : ℕ) (deg : Degree f n) (big : 2 ≤ n) (returns : squared f n n
   all-selected (suc k) =
       let e : 1 * 2 ^ k ⊕ (2 ^ k - 1) ≡ 1 * 2 ^ k + (2 ^ k - 1) = ⊕-low 1 k (2 ^ k - 1) (omega (arith, pow-pos k)) in
       let s : 2 ^ suc k - 1 ≡ (2 ^ k - 1) ⊕ 2 ^ k =
-      rw pow-suc (sym (⊕-comm (2 ^ k - 1) (2 ^ k) ∙ ap (λ (x : ℕ). x ⊕ (2 ^ k - 1)) (sym (one-times k)) ∙ e ∙ (omega (arith, pow-pos k)))) in
+      rw pow-suc (sym (⊕-comm (2 ^ k - 1) (2 ^ k) ∙ ap (λ (x : ℕ). x ⊕ (2 ^ k - 1)) (sym (one-mul (2 ^ k))) ∙ e ∙ (omega (arith, pow-pos k)))) in
       ap (λ (g : ℕ). conjugateSum f n g a) s ∙ conjugateSum-⊕ f n deg (2 ^ k - 1) (2 ^ k) a
       ∙ ap₂ _⊕_ (all-selected k) (conjugateSum-power f n deg k a)
-    where
-      one-times : (k : ℕ) → 1 * 2 ^ k ≡ 2 ^ k
-      one-times k = omega arith
 
   pub normal-trace : Irreducible f → Independent (conjugates f n a) n → trace f n a ≡ 1
   unfolding trace
