@@ -17,8 +17,7 @@ use Rattle.rows.specs.Inverses.{inverse-unique-at, inverted-independent, invert
 use Rattle.normal.specs.Normal.{conjugates, normal, dependency, listed, inverseRows, tableRows, padded, coordinates}
 use Rattle.normal.specs.Basis.{noBasis, builtOf}
 use Rattle.normal.specs.Selected.{conjugates-at, conjugates-length}
-use Rattle.normal.specs.Coordinates.{normal-means, dependency-is, inverseRows-inverse, inverseRows-length, convert-coordinates}
-use Rattle.normal.specs.Conjugated.{listed-ext}
+use Rattle.normal.specs.Coordinates.{listed-ext, normal-means, dependency-is, inverseRows-inverse, inverseRows-length, convert-coordinates}
 use Rattle.normal.specs.Filling.{padded-length, padded-at, padded-comb, padded-ext, padded-inverse}
 
 same-truth : (a b : Bool) → (a ≡ true → b ≡ true) → (b ≡ true → a ≡ true) → a ≡ b
@@ -71,7 +70,7 @@ module _ (f n a : ℕ) (deg : Degree f n) (small : n ≤ limit) (ha : a < 2 ^ n)
 
     pub inverted-inverse-rows : r .inverse ≡ padded (inverseRows f n a)
     inverted-inverse-rows =
-        padded-ext (inverseRows f n a) (r .inverse) (rw (inverseRows-length f n deg a ha free) small)
+        padded-ext (inverseRows f n a) (r .inverse) (rw (inverseRows-length f n a) small)
         (inverted-length (padded (conjugates f n a)) n r inverts ∙ padded-length (conjugates f n a) short) inverse-at
 
     pub inverted-table : listed n (λ i. comb (r .inverse) (mulMod f n (getD (padded (conjugates f n a)) 0 0) (getD (padded (conjugates f n a)) i 0))) ≡ tableRows f n a

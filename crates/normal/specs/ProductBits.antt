@@ -237,4 +237,4 @@ table-product f n deg big returns a ha free u v hu hv =
     let tab : Table f n a T = tableRows-table f n deg a ha free in
     let pos : 1 ≤ n = omega arith in
     ap (comb (conjugates f n a)) (sym (horner-table n pos T (tab .size) (tab .row-lt) u v hv))
-    ∙ horner-product f n deg pos a ha (squared-fixes f n deg big n returns a ha) T tab u v hu hv
+    ∙ horner-product f n deg pos a (squared-fixes f n deg big n returns a ha) T tab u v hu hv
