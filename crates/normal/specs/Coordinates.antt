@@ -22,7 +22,9 @@ use Rattle.rows.specs.Sums.{comb-lt}
 use Rattle.rows.specs.Inverses.{independent-injective, inverse-left, inverse-right}
 use Rattle.rows.specs.Decision.{independent-means, independent-onto, inverse-of-right, and-both, and-parts}
 use Rattle.normal.specs.Normal.{conjugates, normal, dependency, coordinates, listed, inverseRows, tableRows}
-use Rattle.normal.specs.Selected.{conjugates-at, conjugates-length}
+use Rattle.normal.specs.TableProduct.{rotate}
+use Rattle.normal.specs.Rotation.{rotate-lt}
+use Rattle.normal.specs.Selected.{conjugates-at, conjugates-length, rotate-square}
 
 -- ---- lists by their entries
 
@@ -119,6 +121,13 @@ module _ (f n : ℕ) (deg : Degree f n) (a : ℕ) (ha : a < 2 ^ n) where
         let s = independent-onto (conjugates f n a) n conjugates-matrix free y h in
         let e : coordinates f n a y ≡ s .0 = coordinates-unique y (s .0) (s .1) (s .2) in
         (rw e (s .1), ap (comb (conjugates f n a)) e ∙ s .2)
+
+    -- "Squaring turns bit i into bit i+1, and bit n-1 into bit 0."
+    pub square-coordinates : 1 ≤ n → squared f n n a ≡ a → (y : ℕ) → y < 2 ^ n → coordinates f n a (mulMod f n y y) ≡ rotate n (coordinates f n a y)
+    square-coordinates pos back y h =
+        let c = coordinates-are y h in
+        coordinates-unique (mulMod f n y y) (rotate n (coordinates f n a y)) (rotate-lt n pos (coordinates f n a y) (c .0))
+        (rotate-square f n deg pos a back (coordinates f n a y) (c .0) ∙ ap (λ (x : ℕ). mulMod f n x x) (c .1))
 
     -- ---- the inverse rows
 
