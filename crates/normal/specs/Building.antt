@@ -38,8 +38,8 @@ module _ (f n a : ℕ) (deg : Degree f n) (small : n ≤ limit) (ha : a < 2 ^ n)
   -- ---- not normal
 
   module _ (e : r .independent ≡ false) where
-    pub inverted-tied : r .dependency ≡ dependency f n a
-    inverted-tied =
+    pub inverted-dependency-is : r .dependency ≡ dependency f n a
+    inverted-dependency-is =
         let C : List ℕ = conjugates f n a in
         let d = inverted-dependency (padded C) n r inverts e in
         sym (dependency-is f n a (r .dependency)
@@ -50,11 +50,11 @@ module _ (f n a : ℕ) (deg : Degree f n) (small : n ≤ limit) (ha : a < 2 ^ n)
           smallest = λ w p l z. d .smallest w p l (padded-comb C w ∙ z);
         }))
 
-    pub built-tied : record { normal = false; basis = noBasis; dependency = r .dependency } ≡ builtOf f n a
+    pub built-dependent : record { normal = false; basis = noBasis; dependency = r .dependency } ≡ builtOf f n a
     unfolding builtOf
-    built-tied =
+    built-dependent =
         let t : normal f n a ≡ false = sym inverted-normal ∙ e in
-        rw (t, inverted-tied)
+        rw (t, inverted-dependency-is)
 
   -- ---- normal
 
