@@ -1,4 +1,5 @@
--- Building a basis: what inversion answers for the conjugates of an element is what the definitions say of it.
+-- Building a basis: what inversion answers for the conjugates of an element is what the definitions say of it. In order: whether it
+-- is normal; its dependency where it is not; its inverse rows and table rows where it is.
 -- Assumes nothing.
 use mathlib.Core.Path.{_≡_, refl, sym, ap₂, _∙_}
 use mathlib.Core.Bool.{Bool, true, false}

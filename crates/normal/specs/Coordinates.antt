@@ -1,5 +1,6 @@
--- Normal coordinates: they are unique, and exist for every element where the conjugates are independent; the inverse rows convert to
--- them, the conjugates back, and each conversion undoes the other.
+-- Normal coordinates. In order: lists and rows by their entries; what `normal` and `dependency` say. Then, where the conjugates are
+-- independent: coordinates are unique, exist for every element, and are rotated by squaring; the inverse rows convert to them, the
+-- conjugates back, and each conversion undoes the other.
 -- Assumes nothing.
 use mathlib.Core.Path.{_≡_, refl, sym, ap, ap₂, _∙_}
 use mathlib.Core.Logic.{⊎-elim, _↔_}
