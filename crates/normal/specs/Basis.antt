@@ -1,4 +1,9 @@
 -- What building a basis answers, as a function of f, its degree and the element: the three matrices, or the dependency.
+-- Definitions alone.
+--
+--   basisRows f n a   the three matrices of a normal element; `noBasis` has zeros for them
+--   builtOf f n a     the answer: it is normal and these are its matrices, or it is not and this is its dependency
+--
 -- Assumes nothing.
 use mathlib.Core.Bool.{true, false, cond}
 use mathlib.Core.List.{List}

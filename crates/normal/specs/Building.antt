@@ -1,4 +1,5 @@
--- Building a basis: what inversion answers for the conjugates of an element is what the definitions say of it.
+-- Building a basis: what inversion answers for the conjugates of an element is what the definitions say of it. In order: whether it
+-- is normal; its dependency where it is not; its inverse rows and table rows where it is.
 -- Assumes nothing.
 use mathlib.Core.Path.{_≡_, refl, sym, ap₂, _∙_}
 use mathlib.Core.Bool.{Bool, true, false}
@@ -17,8 +18,7 @@ use Rattle.rows.specs.Inverses.{inverse-unique-at, inverted-independent, invert
 use Rattle.normal.specs.Normal.{conjugates, normal, dependency, listed, inverseRows, tableRows, padded, coordinates}
 use Rattle.normal.specs.Basis.{noBasis, builtOf}
 use Rattle.normal.specs.Selected.{conjugates-at, conjugates-length}
-use Rattle.normal.specs.Coordinates.{normal-means, dependency-is, inverseRows-inverse, inverseRows-length, convert-coordinates}
-use Rattle.normal.specs.Conjugated.{listed-ext}
+use Rattle.normal.specs.Coordinates.{listed-ext, normal-means, dependency-is, inverseRows-inverse, inverseRows-length, convert-coordinates}
 use Rattle.normal.specs.Filling.{padded-length, padded-at, padded-comb, padded-ext, padded-inverse}
 
 same-truth : (a b : Bool) → (a ≡ true → b ≡ true) → (b ≡ true → a ≡ true) → a ≡ b
@@ -39,8 +39,8 @@ module _ (f n a : ℕ) (deg : Degree f n) (small : n ≤ limit) (ha : a < 2 ^ n)
   -- ---- not normal
 
   module _ (e : r .independent ≡ false) where
-    pub inverted-tied : r .dependency ≡ dependency f n a
-    inverted-tied =
+    pub inverted-dependency-is : r .dependency ≡ dependency f n a
+    inverted-dependency-is =
         let C : List ℕ = conjugates f n a in
         let d = inverted-dependency (padded C) n r inverts e in
         sym (dependency-is f n a (r .dependency)
@@ -51,11 +51,11 @@ module _ (f n a : ℕ) (deg : Degree f n) (small : n ≤ limit) (ha : a < 2 ^ n)
           smallest = λ w p l z. d .smallest w p l (padded-comb C w ∙ z);
         }))
 
-    pub built-tied : record { normal = false; basis = noBasis; dependency = r .dependency } ≡ builtOf f n a
+    pub built-dependent : record { normal = false; basis = noBasis; dependency = r .dependency } ≡ builtOf f n a
     unfolding builtOf
-    built-tied =
+    built-dependent =
         let t : normal f n a ≡ false = sym inverted-normal ∙ e in
-        rw (t, inverted-tied)
+        rw (t, inverted-dependency-is)
 
   -- ---- normal
 
@@ -71,7 +71,7 @@ module _ (f n a : ℕ) (deg : Degree f n) (small : n ≤ limit) (ha : a < 2 ^ n)
 
     pub inverted-inverse-rows : r .inverse ≡ padded (inverseRows f n a)
     inverted-inverse-rows =
-        padded-ext (inverseRows f n a) (r .inverse) (rw (inverseRows-length f n deg a ha free) small)
+        padded-ext (inverseRows f n a) (r .inverse) (rw (inverseRows-length f n a) small)
         (inverted-length (padded (conjugates f n a)) n r inverts ∙ padded-length (conjugates f n a) short) inverse-at
 
     pub inverted-table : listed n (λ i. comb (r .inverse) (mulMod f n (getD (padded (conjugates f n a)) 0 0) (getD (padded (conjugates f n a)) i 0))) ≡ tableRows f n a

@@ -1,11 +1,10 @@
 -- What the conjugates of a normal element share, and its trace. Where squaring n times leaves x: every conjugate is normal and has
 -- the same table, so the same complexity. Over an irreducible f besides: the trace is 1.
 -- Assumes nothing.
-use mathlib.Core.Path.{_≡_, refl, sym, ap, ap₂, _∙_}
+use mathlib.Core.Path.{_≡_, sym, ap, ap₂, _∙_}
 use mathlib.Core.Logic.{⊎-elim}
-use mathlib.Core.List.{List, [], _∷_}
 use Prim.Native.Nat.{ℕ, zero, suc, _+_, _-_, _*_, _^_, _≤_, _<_}
-use native.Mathlib.Nat.{pow-suc}
+use native.Mathlib.Nat.{one-mul, pow-suc}
 use native.Mathlib.Omega.{arith}
 use lib.Pow.{pow-pos, pow-mono}
 use Rattle.gf2.specs.Poly.{_⊕_, mulMod, Degree}
@@ -16,15 +15,9 @@ use Rattle.field.specs.Frobenius.{squared-lt, squared-zero, squared-add, square
 use Rattle.field.specs.Trace.{trace-bit}
 use Rattle.field.specs.ConjugateSums.{conjugateSum, conjugateSum-zero, conjugateSum-⊕, conjugateSum-power}
 use Rattle.rows.specs.Rows.{comb, Independent}
-use Rattle.normal.specs.Normal.{conjugates, coordinates, listed, tableRows, complexity}
+use Rattle.normal.specs.Normal.{conjugates, coordinates, tableRows, complexity}
 use Rattle.normal.specs.Selected.{selected-sum, selected-lt, selected-squared}
-use Rattle.normal.specs.Coordinates.{coordinates-are, coordinates-unique}
-
-pub listed-ext : (k : ℕ) (g h : ℕ → ℕ) → ((i : ℕ) → i < k → g i ≡ h i) → listed k g ≡ listed k h
-unfolding listed
-listed-ext zero g h e = refl
-listed-ext (suc k) g h e =
-    ap₂ {C = List ℕ} (λ (x : ℕ) (l : List ℕ). x ∷ l) (e 0 (omega arith)) (listed-ext k (λ i. g (suc i)) (λ i. h (suc i)) (λ i l. e (suc i) (omega arith)))
+use Rattle.normal.specs.Coordinates.{listed-ext, coordinates-are, coordinates-unique}
 
 module _ (f n : ℕ) (deg : Degree f n) (big : 2 ≤ n) (returns : squared f n n 2 ≡ 2) (a : ℕ) (ha : a < 2 ^ n) where
   -- ---- every conjugate
@@ -71,12 +64,9 @@ module _ (f n : ℕ) (deg : Degree f n) (big : 2 ≤ n) (returns : squared f n n
   all-selected (suc k) =
       let e : 1 * 2 ^ k ⊕ (2 ^ k - 1) ≡ 1 * 2 ^ k + (2 ^ k - 1) = ⊕-low 1 k (2 ^ k - 1) (omega (arith, pow-pos k)) in
       let s : 2 ^ suc k - 1 ≡ (2 ^ k - 1) ⊕ 2 ^ k =
-      rw pow-suc (sym (⊕-comm (2 ^ k - 1) (2 ^ k) ∙ ap (λ (x : ℕ). x ⊕ (2 ^ k - 1)) (sym (one-times k)) ∙ e ∙ (omega (arith, pow-pos k)))) in
+      rw pow-suc (sym (⊕-comm (2 ^ k - 1) (2 ^ k) ∙ ap (λ (x : ℕ). x ⊕ (2 ^ k - 1)) (sym (one-mul (2 ^ k))) ∙ e ∙ (omega (arith, pow-pos k)))) in
       ap (λ (g : ℕ). conjugateSum f n g a) s ∙ conjugateSum-⊕ f n deg (2 ^ k - 1) (2 ^ k) a
       ∙ ap₂ _⊕_ (all-selected k) (conjugateSum-power f n deg k a)
-    where
-      one-times : (k : ℕ) → 1 * 2 ^ k ≡ 2 ^ k
-      one-times k = omega arith
 
   pub normal-trace : Irreducible f → Independent (conjugates f n a) n → trace f n a ≡ 1
   unfolding trace

@@ -1,10 +1,11 @@
--- Normal coordinates: they are unique, and exist for every element where the conjugates are independent; the inverse rows convert to
--- them, the conjugates back, and each conversion undoes the other.
+-- Normal coordinates. In order: lists and rows by their entries; what `normal` and `dependency` say. Then, where the conjugates are
+-- independent: coordinates are unique, exist for every element, and are rotated by squaring; the inverse rows convert to them, the
+-- conjugates back, and each conversion undoes the other.
 -- Assumes nothing.
-use mathlib.Core.Path.{_≡_, refl, sym, ap, _∙_}
+use mathlib.Core.Path.{_≡_, refl, sym, ap, ap₂, _∙_}
 use mathlib.Core.Logic.{⊎-elim, _↔_}
 use mathlib.Core.Bool.{Bool, true, _&&_}
-use mathlib.Core.List.{List}
+use mathlib.Core.List.{List, _∷_}
 use Prim.Native.Nat.{ℕ, zero, suc, _^_, _≤_, _<_}
 use native.Mathlib.Nat.{not-suc-le-zero, le-of-suc-le-suc}
 use native.Mathlib.Omega.{arith}
@@ -22,7 +23,9 @@ use Rattle.rows.specs.Sums.{comb-lt}
 use Rattle.rows.specs.Inverses.{independent-injective, inverse-left, inverse-right}
 use Rattle.rows.specs.Decision.{independent-means, independent-onto, inverse-of-right, and-both, and-parts}
 use Rattle.normal.specs.Normal.{conjugates, normal, dependency, coordinates, listed, inverseRows, tableRows}
-use Rattle.normal.specs.Selected.{conjugates-at, conjugates-length}
+use Rattle.normal.specs.TableProduct.{rotate}
+use Rattle.normal.specs.Rotation.{rotate-lt}
+use Rattle.normal.specs.Selected.{conjugates-at, conjugates-length, rotate-square}
 
 -- ---- lists by their entries
 
@@ -36,6 +39,12 @@ pub listed-length : (k : ℕ) (g : ℕ → ℕ) → length (listed k g) ≡ k
 unfolding listed
 listed-length zero g = refl
 listed-length (suc k) g = ap suc (listed-length k (λ j. g (suc j)))
+
+pub listed-ext : (k : ℕ) (g h : ℕ → ℕ) → ((i : ℕ) → i < k → g i ≡ h i) → listed k g ≡ listed k h
+unfolding listed
+listed-ext zero g h e = refl
+listed-ext (suc k) g h e =
+    ap₂ {C = List ℕ} (λ (x : ℕ) (l : List ℕ). x ∷ l) (e 0 (omega arith)) (listed-ext k (λ i. g (suc i)) (λ i. h (suc i)) (λ i l. e (suc i) (omega arith)))
 
 -- a list of n rows below 2 ^ n is a matrix of degree n
 pub rows-matrix : (rows : List ℕ) (n : ℕ) → length rows ≡ n → ((i : ℕ) → i < n → getD rows i 0 < 2 ^ n) → Matrix rows n
@@ -66,6 +75,25 @@ dependency-is f n a v d =
           d .smallest w (ltb-true 0 w (b .0)) l (eqb-true (comb (conjugates f n a) w) 0 (b .1));
     })
 
+-- ---- the rows of a sheet
+
+module _ (f n a : ℕ) where
+  pub inverseRows-at : (i : ℕ) → i < n → getD (inverseRows f n a) i 0 ≡ coordinates f n a (2 ^ i)
+  unfolding inverseRows
+  inverseRows-at = listed-at n (λ i. coordinates f n a (2 ^ i))
+
+  pub inverseRows-length : length (inverseRows f n a) ≡ n
+  unfolding inverseRows
+  inverseRows-length = listed-length n (λ i. coordinates f n a (2 ^ i))
+
+  pub tableRows-at : (i : ℕ) → i < n → getD (tableRows f n a) i 0 ≡ coordinates f n a (mulMod f n a (squared f n i a))
+  unfolding tableRows
+  tableRows-at = listed-at n (λ i. coordinates f n a (mulMod f n a (squared f n i a)))
+
+  pub tableRows-length : length (tableRows f n a) ≡ n
+  unfolding tableRows
+  tableRows-length = listed-length n (λ i. coordinates f n a (mulMod f n a (squared f n i a)))
+
 module _ (f n : ℕ) (deg : Degree f n) (a : ℕ) (ha : a < 2 ^ n) where
   pub conjugates-matrix : Matrix (conjugates f n a) n
   conjugates-matrix =
@@ -95,21 +123,20 @@ module _ (f n : ℕ) (deg : Degree f n) (a : ℕ) (ha : a < 2 ^ n) where
         let e : coordinates f n a y ≡ s .0 = coordinates-unique y (s .0) (s .1) (s .2) in
         (rw e (s .1), ap (comb (conjugates f n a)) e ∙ s .2)
 
+    -- "Squaring turns bit i into bit i+1, and bit n-1 into bit 0."
+    pub square-coordinates : 1 ≤ n → squared f n n a ≡ a → (y : ℕ) → y < 2 ^ n → coordinates f n a (mulMod f n y y) ≡ rotate n (coordinates f n a y)
+    square-coordinates pos back y h =
+        let c = coordinates-are y h in
+        coordinates-unique (mulMod f n y y) (rotate n (coordinates f n a y)) (rotate-lt n pos (coordinates f n a y) (c .0))
+        (rotate-square f n deg pos a back (coordinates f n a y) (c .0) ∙ ap (λ (x : ℕ). mulMod f n x x) (c .1))
+
     -- ---- the inverse rows
-
-    pub inverseRows-at : (i : ℕ) → i < n → getD (inverseRows f n a) i 0 ≡ coordinates f n a (2 ^ i)
-    unfolding inverseRows
-    inverseRows-at i h = listed-at n (λ i. coordinates f n a (2 ^ i)) i h
-
-    pub inverseRows-length : length (inverseRows f n a) ≡ n
-    unfolding inverseRows
-    inverseRows-length = listed-length n (λ i. coordinates f n a (2 ^ i))
 
     pub inverseRows-inverse : Inverse (conjugates f n a) n (inverseRows f n a)
     inverseRows-inverse =
         inverse-of-right (conjugates f n a) n (inverseRows f n a)
-        (rows-matrix (inverseRows f n a) n inverseRows-length (λ i h. rw (inverseRows-at i h) (coordinates-are (2 ^ i) (pow-lt h) .0)))
-        (λ i h. rw (inverseRows-at i h) (coordinates-are (2 ^ i) (pow-lt h) .1))
+        (rows-matrix (inverseRows f n a) n (inverseRows-length f n a) (λ i h. rw (inverseRows-at f n a i h) (coordinates-are (2 ^ i) (pow-lt h) .0)))
+        (λ i h. rw (inverseRows-at f n a i h) (coordinates-are (2 ^ i) (pow-lt h) .1))
 
     -- "converting to normal coordinates sums the inverse rows picked by the bits"
     pub convert-coordinates : (y : ℕ) → y < 2 ^ n → comb (inverseRows f n a) y ≡ coordinates f n a y
@@ -124,13 +151,3 @@ module _ (f n : ℕ) (deg : Degree f n) (a : ℕ) (ha : a < 2 ^ n) where
 
     pub back-and-there : (v : ℕ) → v < 2 ^ n → comb (inverseRows f n a) (comb (conjugates f n a) v) ≡ v
     back-and-there = inverse-left (conjugates f n a) n (inverseRows f n a) inverseRows-inverse
-
-    -- ---- the table rows
-
-    pub tableRows-at : (i : ℕ) → i < n → getD (tableRows f n a) i 0 ≡ coordinates f n a (mulMod f n a (squared f n i a))
-    unfolding tableRows
-    tableRows-at i h = listed-at n (λ i. coordinates f n a (mulMod f n a (squared f n i a))) i h
-
-    pub tableRows-length : length (tableRows f n a) ≡ n
-    unfolding tableRows
-    tableRows-length = listed-length n (λ i. coordinates f n a (mulMod f n a (squared f n i a)))

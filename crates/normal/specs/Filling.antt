@@ -1,4 +1,7 @@
--- Matrices inside a computation: how a loop fills one row by row, and that padding changes neither rows nor sums of rows.
+-- Matrices inside a computation: padding changes neither rows nor sums of rows, and how a loop fills a matrix row by row.
+--
+--   Filled m i g   the entries of m below i are those of g, and the rest 0
+--
 -- Assumes nothing.
 use mathlib.Core.Path.{_≡_, sym, ap, _∙_}
 use mathlib.Core.Logic.{⊎-elim}
@@ -62,7 +65,6 @@ padded-inverse rows inv n s =
 
 -- ---- filling
 
--- the entries below i are those of g, and the rest 0
 pub record Filled (m : List ℕ) (i : ℕ) (g : ℕ → ℕ) : Type 0 where
   pub size : length m ≡ limit
   pub done : (j : ℕ) → j < i → getD m j 0 ≡ g j

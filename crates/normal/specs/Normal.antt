@@ -1,10 +1,11 @@
 -- What a sheet holds (document 01, "Two notations" and "What a sheet holds"): the conjugates of an element, when it is normal,
 -- normal coordinates, and the three matrices. Definitions alone; the laws stand in the files beside this one.
 --
---   conjugates f n a        c_0 to c_(n-1), in order of squaring
+--   conjugates f n a        c_0 to c_(n-1), in order of squaring; `conjugatesFrom f n k a` is the first k
 --   normal f n a            no non-empty set of them sums to zero; `normal-means` (in `Coordinates`) says it for every set
 --   dependency f n a        the smallest non-zero number whose set bits select conjugates that sum to zero
 --   coordinates f n a y     the normal coordinates of y
+--   listed k g              the list of g 0 to g (k - 1)
 --   inverseRows f n a       row i: the normal coordinates of x ^ i
 --   tableRows f n a         row i: the normal coordinates of c_0 times c_i
 --   complexity rows         the number of ones in the rows
@@ -43,7 +44,6 @@ dependency f n a = first (2 ^ n) (λ v. ltb 0 v && eqb (comb (conjugates f n a) 
 unfoldable pub coordinates : (f n a y : ℕ) → ℕ
 coordinates f n a y = first (2 ^ n) (λ v. eqb (comb (conjugates f n a) v) y)
 
--- the list of g 0 to g (k - 1)
 unfoldable pub listed : ℕ → (ℕ → ℕ) → List ℕ
 listed zero g = []
 listed (suc k) g = g 0 ∷ listed k (λ i. g (suc i))

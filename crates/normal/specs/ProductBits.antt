@@ -1,5 +1,10 @@
 -- The product by turns has the bits of document 01's formula: bit k is the sum modulo 2, over all i and j, of
--- a_i b_j t((j-i) mod n, (k-i) mod n). So the number that the formula gives is the product by turns.
+-- a_i b_j t((j-i) mod n, (k-i) mod n). So the number that the formula gives is the product by turns (`horner-table`), and through the
+-- table of a normal element it is the product of elements (`table-product`). In order: sums modulo 2, over a cycle of indices too;
+-- bits of numbers and of sums of rows; the product by turns, bit by bit; document 01's formula.
+--
+--   xorSum k g   the exclusive or of g 0 to g (k - 1)
+--
 -- Assumes nothing.
 use mathlib.Core.Path.{_≡_, refl, sym, ap, ap₂, _∙_}
 use mathlib.Core.Logic.{_⊎_, inl, inr}
@@ -27,7 +32,6 @@ use Rattle.normal.specs.Products.{Table, tableRows-table, hornerProduct,
 
 -- ---- sums modulo 2
 
--- the exclusive or of g 0 to g (k - 1)
 unfoldable pub xorSum : ℕ → (ℕ → ℕ) → ℕ
 xorSum zero g = 0
 xorSum (suc k) g = g 0 ⊕ xorSum k (λ i. g (suc i))
@@ -237,4 +241,4 @@ table-product f n deg big returns a ha free u v hu hv =
     let tab : Table f n a T = tableRows-table f n deg a ha free in
     let pos : 1 ≤ n = omega arith in
     ap (comb (conjugates f n a)) (sym (horner-table n pos T (tab .size) (tab .row-lt) u v hv))
-    ∙ horner-product f n deg pos a ha (squared-fixes f n deg big n returns a ha) T tab u v hu hv
+    ∙ horner-product f n deg pos a (squared-fixes f n deg big n returns a ha) T tab u v hu hv

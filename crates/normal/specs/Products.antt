@@ -52,16 +52,16 @@ module _ (f n : ℕ) (deg : Degree f n) where
   pub tableRows-table : (a : ℕ) → a < 2 ^ n → Independent (conjugates f n a) n → Table f n a (tableRows f n a)
   tableRows-table a ha free =
       record {
-        size = tableRows-length f n deg a ha free;
-        row-lt = λ i h. rw (tableRows-at f n deg a ha free i h) (coordinates-are f n deg a ha free (mulMod f n a (squared f n i a)) (mulMod-lt f n deg a (squared f n i a)) .0);
-        row = λ i h. rw (tableRows-at f n deg a ha free i h) (coordinates-are f n deg a ha free (mulMod f n a (squared f n i a)) (mulMod-lt f n deg a (squared f n i a)) .1);
+        size = tableRows-length f n a;
+        row-lt = λ i h. rw (tableRows-at f n a i h) (coordinates-are f n deg a ha free (mulMod f n a (squared f n i a)) (mulMod-lt f n deg a (squared f n i a)) .0);
+        row = λ i h. rw (tableRows-at f n a i h) (coordinates-are f n deg a ha free (mulMod f n a (squared f n i a)) (mulMod-lt f n deg a (squared f n i a)) .1);
       }
 
   bit-product : (d x y : ℕ) → d < 2 → mulMod f n (d * x) y ≡ d * mulMod f n x y
   bit-product d x y h =
       mulMod-comm f n deg (d * x) y ∙ linear-bit (mulMod f n y) (mulMod-⊕-r f n deg y) d x h ∙ ap (λ (z : ℕ). d * z) (mulMod-comm f n deg y x)
 
-  module _ (pos : 1 ≤ n) (a : ℕ) (ha : a < 2 ^ n) (back : squared f n n a ≡ a) (T : List ℕ) (tab : Table f n a T) where
+  module _ (pos : 1 ≤ n) (a : ℕ) (back : squared f n n a ≡ a) (T : List ℕ) (tab : Table f n a T) where
     -- a times a sum of conjugates is the sum that the rows' sum selects
     pub table-times : (v : ℕ) → v < 2 ^ n → comb (conjugates f n a) (comb T v) ≡ mulMod f n a (comb (conjugates f n a) v)
     table-times =

@@ -1,5 +1,8 @@
--- Laws of the rotation of n bits, and of the rotation back: each undoes the other; bit k of the number rotated is bit k-1 of the
--- number, indices modulo n.
+-- Laws of the rotation of n bits, and of the rotation back. In order: what rotating comes to; each undoes the other; bit k of the
+-- number rotated is bit k-1 of the number, indices modulo n.
+--
+--   rotateBack n v   bit i goes to i-1, and bit 0 to n-1
+--
 -- Assumes nothing.
 use mathlib.Core.Path.{_≡_, sym, ap, _∙_}
 use mathlib.Core.Logic.{_⊎_, inl, inr, ⊎-elim}
@@ -11,7 +14,6 @@ use Rattle.gf2.specs.Numbers.{bitCases, mod-two-lt, order, pow-next}
 use Rattle.rows.specs.Bits.{bitOf}
 use Rattle.normal.specs.TableProduct.{rotate}
 
--- bit i goes to i-1, and bit 0 to n-1
 unfoldable pub rotateBack : (n v : ℕ) → ℕ
 rotateBack n v = v / 2 + v % 2 * 2 ^ (n - 1)
 

@@ -3,6 +3,7 @@
 --
 --   rotate n v               "Squaring turns bit i into bit i+1, and bit n-1 into bit 0."
 --   entry rows i j           t(i,j), bit j of row i
+--   total k g                the sum of g 0 to g (k - 1)
 --   productBit n rows a b k  bit k of the product of a and b
 --   tableProduct n rows a b  the number with these bits
 --
@@ -19,7 +20,6 @@ rotate n v = v * 2 % 2 ^ n + v * 2 / 2 ^ n
 abbrev pub entry : (rows : List ℕ) (i j : ℕ) → ℕ
 entry rows i j = bitOf (getD rows i 0) j
 
--- the sum of g 0 to g (k - 1)
 unfoldable pub total : ℕ → (ℕ → ℕ) → ℕ
 total zero g = 0
 total (suc k) g = g 0 + total k (λ i. g (suc i))

@@ -8,7 +8,7 @@ use mathlib.Core.Path.{_≡_, sym, ap, _∙_}
 use mathlib.Core.Bool.{Bool, true, false, _&&_}
 use mathlib.Core.List.{List, [], _∷_, _++_}
 use Prim.Native.Nat.{ℕ, zero, suc, _+_, _-_, _*_, _/_, _%_, _^_, _≤_, _<_}
-use native.Mathlib.Nat.{add-zero, zero-add, add-assoc, suc-mul, mod-lt, mod-eq-of-lt, mod-add-mod, add-mul-mod-self-right, mul-comm, sub-add-cancel}
+use native.Mathlib.Nat.{add-zero, zero-add, zero-mul, add-assoc, suc-mul, mod-lt, mod-eq-of-lt, mod-add-mod, add-mul-mod-self-right, mul-comm, sub-add-cancel}
 use native.Mathlib.Numerals.{add-one}
 use native.Mathlib.Omega.{arith}
 use lib.Count.{ones}
@@ -84,10 +84,7 @@ module _ (n : ℕ) (pos : 1 ≤ n) where
 
   rotatedBy-bit : (i v k : ℕ) → v < 2 ^ n → k < n → bitOf (rotatedBy n i v) k ≡ bitOf v ((k + i * (n - 1)) % n)
   unfolding rotatedBy
-  rotatedBy-bit zero v k hv hk = ap (bitOf v) (sym (rw (zero-times (n - 1), add-zero) (mod-eq-of-lt hk)))
-    where
-      zero-times : (m : ℕ) → 0 * m ≡ 0
-      zero-times m = omega arith
+  rotatedBy-bit zero v k hv hk = ap (bitOf v) (sym (rw (zero-mul, add-zero) (mod-eq-of-lt hk)))
   rotatedBy-bit (suc i) v k hv hk =
       let e : k + (n - 1) + i * (n - 1) ≡ k + suc i * (n - 1) = next (n - 1) in
       rotate-bit n pos (rotatedBy n i v) k (rotatedBy-lt i v hv) hk

@@ -18,8 +18,8 @@ pub fn rotated(n: u32, v: u64) -> u64
     up % (1u64 << n) + (up >> n)
 }
 
-// The product of a and b. Bit i of a is taken from the highest down: what is summed so far is rotated, and the rows that b picks,
-// rotated as often as is left, are added.
+// The product of a and b. The bits of a are taken from the highest down. At bit i what is summed so far is rotated, and where the bit
+// is set the rows are added that b picks, rotated back i times: that is n - i times up, which is once more at each turn.
 pub fn product_of(table: [u64; LIMIT], n: u32, a: u64, b: u64) -> u64
     requires { ⌜ (1 ≤ n) × (n ≤ limit) × Matrix table n × (a < 2 ^ n) × (b < 2 ^ n) ⌝ }
     ensures { λ r. ⌜ r ≡ tableProduct n (take n table) a b ⌝ }

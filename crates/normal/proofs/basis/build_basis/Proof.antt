@@ -10,7 +10,7 @@ use Rattle.rows.specs.Rows.{Matrix}
 use Rattle.normal.specs.Normal.{conjugates, padded}
 use Rattle.normal.specs.Coordinates.{conjugates-matrix}
 use Rattle.normal.specs.Filling.{padded-matrix}
-use Rattle.normal.specs.Building.{built-tied, built-normal}
+use Rattle.normal.specs.Building.{built-dependent, built-normal}
 use Rattle.normal.proofs.basis.build_basis.Statement.{statement}
 use Rattle.normal.proofs.basis.build_basis.Tie as tie
 use Rattle.normal.proofs.basis.build_basis.Reads as reads
@@ -32,7 +32,7 @@ returns c =
     let v = c .before .before in
     let g = v .before in
     let s = g .before in
-    built-tied (s .args .f) (s .args .n) (s .args .a) (s .pre .2) (s .pre .1) (s .pre .3) (v .invert .result) (rw (g .conjugates-of .ensures) at (v .invert .ensures)) (not-true (v .invert .result .independent) (c .if1 .taken))
+    built-dependent (s .args .f) (s .args .n) (s .args .a) (s .pre .2) (s .pre .1) (s .pre .3) (v .invert .result) (rw (g .conjugates-of .ensures) at (v .invert .ensures)) (not-true (v .invert .result .independent) (c .if1 .taken))
 
 table-of-requires : tie.Need-table-of-requires
 table-of-requires c κs =
