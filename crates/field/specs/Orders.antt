@@ -104,7 +104,7 @@ checked-done {v} p =
 
 -- ---- what conditions 1 and 4 leave
 
-or-false : (a b : Bool) → (a || b) ≡ false → (a ≡ false) × (b ≡ false)
+pub or-false : (a b : Bool) → (a || b) ≡ false → (a ≡ false) × (b ≡ false)
 or-false true b e = let z : _≡_ {A = ℕ} 0 1 = cc in absurd (omega arith)
 or-false false b e = (refl, e)
 

@@ -1,0 +1,108 @@
+-- What a sheet of good shape has: its size, its places, and numbers below 2 ^ n.
+-- Assumes nothing.
+use mathlib.Core.Path.{_≡_, sym, _∙_}
+use mathlib.Core.Logic.{⊎-elim}
+use mathlib.Core.Bool.{true, false, _||_}
+use mathlib.Core.List.{List, [], _∷_}
+use Prim.Native.Nat.{ℕ, zero, suc, _+_, _-_, _^_, _≤_, _<_}
+use native.Mathlib.Nat.{zero-add}
+use native.Mathlib.Omega.{arith}
+use lib.ListN.{length}
+use Rattle.gf2.specs.Numbers.{order, pow-next}
+use Rattle.gf2.specs.Poly.{Degree}
+use Rattle.gf2.specs.Bounded.{bool-cases}
+use Rattle.field.specs.Refusals.{Rule, clear, refuse, firstOf, tooLarge}
+use Rattle.field.specs.Orders.{first-applies, first-passes, not-too-large, or-false}
+use Rattle.rows.specs.Rows.{Matrix}
+use Rattle.normal.specs.Coordinates.{listed-at, listed-length, rows-matrix}
+use Rattle.sheet.specs.Record.{recordCount, wordSize, tableAt, fieldIn, rowsIn, tailIn, conjugateIn, inverseIn, tableIn, polynomialIn}
+use Rattle.sheet.specs.Orders.{misplaced, oversized, recordRules, shapeOrder, lengthRule}
+use Rattle.sheet.specs.Verdicts.{Numbered, none, more, refusalOf, numbered-clear}
+use Rattle.sheet.specs.Shape.{Sized, good-length}
+
+-- ---- the shape's rules have numbers
+
+recordRules-numbered : (sheet : List ℕ) (i k : ℕ) → Numbered (recordRules sheet i k)
+unfolding recordRules
+recordRules-numbered sheet i zero = none
+recordRules-numbered sheet i (suc k) =
+    more {r = record { number = 8; place = i; applies = misplaced sheet i }} (omega arith)
+    (more {r = record { number = 9; place = i; applies = oversized sheet i }} (omega arith) (recordRules-numbered sheet (i + 1) k))
+
+pub shape-numbered : (sheet : List ℕ) → Numbered (shapeOrder sheet)
+shape-numbered sheet = more {r = lengthRule sheet} (omega arith) (recordRules-numbered sheet 0 (recordCount sheet))
+
+pub shape-clear : (sheet : List ℕ) → refusalOf (firstOf (shapeOrder sheet)) .number ≡ 0 → firstOf (shapeOrder sheet) ≡ clear
+shape-clear sheet = numbered-clear (shapeOrder sheet) (shape-numbered sheet)
+
+-- ---- what a clear shape says
+
+-- a refusal is not clear
+refuse-clear : {k p : ℕ} → refuse k p ≡ clear → ⊥
+refuse-clear e = let z : _≡_ {A = ℕ} 0 1 = cc in omega arith
+
+rule-clear : (r : Rule) (rs : List Rule) → firstOf (r ∷ rs) ≡ clear → (r .applies ≡ false) × (firstOf rs ≡ clear)
+rule-clear r rs e =
+    ⊎-elim
+    (λ (p : r .applies ≡ true). absurd (refuse-clear (sym (first-applies r rs p) ∙ e)))
+    (λ (p : r .applies ≡ false). (p, sym (first-passes r rs p) ∙ e))
+    (bool-cases (r .applies))
+
+records-clear : (sheet : List ℕ) (k i : ℕ) → firstOf (recordRules sheet i k) ≡ clear → (j : ℕ) → j < k → (misplaced sheet (i + j) ≡ false) × (oversized sheet (i + j) ≡ false)
+unfolding recordRules
+records-clear sheet zero i e j h = absurd (omega arith)
+records-clear sheet (suc k) i e j h =
+    let a = rule-clear (record { number = 8; place = i; applies = misplaced sheet i }) _ e in
+    let b = rule-clear (record { number = 9; place = i; applies = oversized sheet i }) (recordRules sheet (i + 1) k) (a .1) in
+    ⊎-elim
+    (λ (u : j < 1). let z : i + j ≡ i = omega arith in rw z (a .0, b .0))
+    (λ (u : 1 ≤ j).
+    let m : ℕ = j - 1 in
+    let z : i + 1 + m ≡ i + j = omega arith in
+    rw z at (records-clear sheet k (i + 1) (b .1) m (omega arith)))
+    (order j 1)
+
+pub record Shaped (sheet : List ℕ) : Type 0 where
+  pub size : Sized sheet
+  pub places : (i : ℕ) → i < recordCount sheet → misplaced sheet i ≡ false
+  pub small : (i : ℕ) → i < recordCount sheet → oversized sheet i ≡ false
+
+pub clear-shaped : (sheet : List ℕ) → firstOf (shapeOrder sheet) ≡ clear → Shaped sheet
+clear-shaped sheet e =
+    let a = rule-clear (lengthRule sheet) (recordRules sheet 0 (recordCount sheet)) e in
+    let at : (i : ℕ) → i < recordCount sheet → (misplaced sheet i ≡ false) × (oversized sheet i ≡ false) =
+    λ i h. rw zero-add at (records-clear sheet (recordCount sheet) 0 (a .1) i h) in
+    record {
+      size = good-length sheet (a .0);
+      places = λ i h. at i h .0;
+      small = λ i h. at i h .1;
+    }
+
+module _ (sheet : List ℕ) (s : Shaped sheet) where
+  -- the four numbers of a record
+  pub fields-lt : (i : ℕ) → i < recordCount sheet
+      → (tailIn sheet i < 2 ^ recordCount sheet) × (conjugateIn sheet i < 2 ^ recordCount sheet) × (inverseIn sheet i < 2 ^ recordCount sheet) × (tableIn sheet i < 2 ^ recordCount sheet)
+  unfolding oversized
+  fields-lt i h =
+      let n : ℕ = recordCount sheet in
+      let a = or-false (tooLarge n (tailIn sheet i) || tooLarge n (conjugateIn sheet i) || tooLarge n (inverseIn sheet i)) (tooLarge n (tableIn sheet i)) (s .small i h) in
+      let b = or-false (tooLarge n (tailIn sheet i) || tooLarge n (conjugateIn sheet i)) (tooLarge n (inverseIn sheet i)) (a .0) in
+      let c = or-false (tooLarge n (tailIn sheet i)) (tooLarge n (conjugateIn sheet i)) (b .0) in
+      (not-too-large n (tailIn sheet i) (c .0), not-too-large n (conjugateIn sheet i) (c .1), not-too-large n (inverseIn sheet i) (b .1), not-too-large n (tableIn sheet i) (a .1))
+
+  -- its polynomial has its record count as degree
+  pub polynomial-degree : Degree (polynomialIn sheet) (recordCount sheet)
+  polynomial-degree =
+      let h : 2 ≤ recordCount sheet = s .size .two in
+      let t = fields-lt 0 (omega arith) .0 in
+      record { low = omega arith; high = rw pow-next (omega arith) }
+
+  pub rowsIn-length : (at : ℕ) → length (rowsIn sheet at) ≡ recordCount sheet
+  unfolding rowsIn
+  rowsIn-length at = listed-length (recordCount sheet) (λ i. fieldIn sheet i at wordSize)
+
+  pub table-matrix : Matrix (rowsIn sheet tableAt) (recordCount sheet)
+  unfolding rowsIn
+  table-matrix =
+      rows-matrix (rowsIn sheet tableAt) (recordCount sheet) (rowsIn-length tableAt)
+      (λ i h. rw (listed-at (recordCount sheet) (λ i. fieldIn sheet i tableAt wordSize) i h) (fields-lt i h .3))

@@ -1,0 +1,15 @@
+-- Sheets: definitions in `Record`, `Orders`, `Answers`, laws in the rest.
+pub mod Record
+pub mod Orders
+pub mod Answers
+pub mod Verdicts
+pub mod Bytes
+pub mod Shape
+pub mod Clear
+pub mod Writing
+pub mod Basis
+pub mod Building
+pub mod Converting
+pub mod Lists
+pub mod Reading
+pub mod Rebuilding

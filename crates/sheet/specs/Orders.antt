@@ -1,0 +1,105 @@
+-- The refusals of the calls on sheets (document 01, "Refusal numbers"): the rows 5 to 11 of the table, and the orders of build, reading,
+-- converting and multiplying. Definitions alone.
+-- Assumes nothing.
+use mathlib.Core.Bool.{Bool, true, false, not, _&&_, _||_}
+use mathlib.Core.List.{List, [], _∷_, _++_}
+use Prim.Native.Nat.{ℕ, zero, suc, _+_, _*_, _/_, _%_}
+use lib.Dec.{ltb, eqb}
+use lib.ListN.{length}
+use Rattle.gf2.specs.Limit.{limit}
+use Rattle.gf2.specs.Poly.{degree}
+use Rattle.field.specs.Refusals.{Rule, degreeRule, elementRule, tooLarge, fieldOrder}
+use Rattle.normal.specs.Normal.{normal}
+use Rattle.sheet.specs.Record.{recordSize, recordCount, degreeIn, rowIn, tailIn, conjugateIn, inverseIn, tableIn, recordAt, polynomialIn, sheetBytes}
+
+-- ---- the rows of the table
+
+-- "the element is not normal"
+abbrev pub normalRule : (f n a : ℕ) → Rule
+normalRule f n a = record { number = 5; place = 0; applies = not (normal f n a) }
+
+-- "buffer to be written is shorter than 32n bytes"
+abbrev pub roomRule : (n room : ℕ) → Rule
+roomRule n room = record { number = 6; place = 0; applies = ltb room (recordSize * n) }
+
+-- "sheet length is not 32 times a count of 2 to 46"
+unfoldable pub badLength : (size : ℕ) → Bool
+badLength size = not (eqb (size % recordSize) 0) || ltb (size / recordSize) 2 || ltb limit (size / recordSize)
+
+abbrev pub lengthRule : (sheet : List ℕ) → Rule
+lengthRule sheet = record { number = 7; place = 0; applies = badLength (length sheet) }
+
+-- "a record's degree is not the record count, its row number is not its place, or bytes 2-7 differ from record 0"
+unfoldable pub misplaced : (sheet : List ℕ) (i : ℕ) → Bool
+misplaced sheet i =
+    not (eqb (degreeIn sheet i) (recordCount sheet)) || not (eqb (rowIn sheet i) i) || not (eqb (tailIn sheet i) (tailIn sheet 0))
+
+-- "bytes 2-7 or one of the three rows is 2^n or more"
+unfoldable pub oversized : (sheet : List ℕ) (i : ℕ) → Bool
+oversized sheet i =
+    tooLarge (recordCount sheet) (tailIn sheet i) || tooLarge (recordCount sheet) (conjugateIn sheet i)
+    || tooLarge (recordCount sheet) (inverseIn sheet i) || tooLarge (recordCount sheet) (tableIn sheet i)
+
+-- "records from 0 upward with 8 before 9 in each": k records from i on
+unfoldable pub recordRules : (sheet : List ℕ) (i k : ℕ) → List Rule
+recordRules sheet i zero = []
+recordRules sheet i (suc k) =
+    record { number = 8; place = i; applies = misplaced sheet i }
+    ∷ record { number = 9; place = i; applies = oversized sheet i }
+    ∷ recordRules sheet (i + 1) k
+
+-- "a record differs from the one rebuilt"
+unfoldable pub same : List ℕ → List ℕ → Bool
+same [] [] = true
+same [] (y ∷ ys) = false
+same (x ∷ xs) [] = false
+same (x ∷ xs) (y ∷ ys) = eqb x y && same xs ys
+
+unfoldable pub differRules : (sheet rebuilt : List ℕ) (i k : ℕ) → List Rule
+differRules sheet rebuilt i zero = []
+differRules sheet rebuilt i (suc k) =
+    record { number = 10; place = i; applies = not (same (recordAt sheet i) (recordAt rebuilt i)) } ∷ differRules sheet rebuilt (i + 1) k
+
+-- the most values that a list may have
+abbrev pub listLimit : ℕ
+listLimit = 4096
+
+-- "list lengths differ or exceed 4,096"
+abbrev pub listRule : (from into : ℕ) → Rule
+listRule from into = record { number = 11; place = 0; applies = not (eqb from into) || ltb listLimit from }
+
+-- "an element, coordinate number .. is 2^n or more": "first such index in a list", counted from i
+unfoldable pub valueRules : (n i : ℕ) → List ℕ → List Rule
+valueRules n i [] = []
+valueRules n i (v ∷ vs) = record { number = 4; place = i; applies = tooLarge n v } ∷ valueRules n (i + 1) vs
+
+-- ---- the orders
+
+-- "Build: 1, 4, 6, 2, 3, 5."
+abbrev pub buildOrder : (f a room : ℕ) → List Rule
+buildOrder f a room =
+    (degreeRule f ∷ elementRule (degree f) (a ∷ []) ∷ roomRule (degree f) room ∷ fieldOrder f) ++ (normalRule f (degree f) a ∷ [])
+
+-- "7, then records from 0 upward with 8 before 9 in each"
+abbrev pub shapeOrder : (sheet : List ℕ) → List Rule
+shapeOrder sheet = lengthRule sheet ∷ recordRules sheet 0 (recordCount sheet)
+
+-- "Reading a sheet: 7, 8 and 9 as above, then 2, 3, 5 for its polynomial and its record 0 conjugate, then 10."
+abbrev pub basisOrder : (f n a : ℕ) → List Rule
+basisOrder f n a = fieldOrder f ++ (normalRule f n a ∷ [])
+
+abbrev pub rebuiltFrom : (sheet : List ℕ) → List ℕ
+rebuiltFrom sheet = sheetBytes (polynomialIn sheet) (recordCount sheet) (conjugateIn sheet 0)
+
+abbrev pub readOrder : (sheet : List ℕ) → List Rule
+readOrder sheet =
+    shapeOrder sheet
+    ++ (basisOrder (polynomialIn sheet) (recordCount sheet) (conjugateIn sheet 0) ++ differRules sheet (rebuiltFrom sheet) 0 (recordCount sheet))
+
+-- "Convert one, multiply through the sheet: 7, then records .., then 4."
+abbrev pub valueOrder : (sheet values : List ℕ) → List Rule
+valueOrder sheet values = shapeOrder sheet ++ (elementRule (recordCount sheet) values ∷ [])
+
+-- "Convert a list: the same, with 11 before 4."
+abbrev pub listOrder : (sheet from : List ℕ) (into : ℕ) → List Rule
+listOrder sheet from into = shapeOrder sheet ++ (listRule (length from) into ∷ valueRules (recordCount sheet) 0 from)

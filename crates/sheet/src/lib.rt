@@ -1,0 +1,21 @@
+// Sheets: records of 32 bytes, and the calls that build, read, convert and multiply through them.
+mod answer;
+mod building;
+mod converting;
+mod layout;
+mod lists;
+mod reading;
+mod record;
+mod shape;
+
+pub use answer::Issued;
+pub use answer::Summary;
+pub use building::build;
+pub use converting::times;
+pub use converting::to_normal;
+pub use converting::to_polynomial;
+pub use layout::RECORD;
+pub use lists::LIST_LIMIT;
+pub use lists::list_to_normal;
+pub use lists::list_to_polynomial;
+pub use reading::read;

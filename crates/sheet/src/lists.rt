@@ -1,0 +1,106 @@
+// The public calls that convert lists. A list is written only when every value of it is good.
+ghost use mathlib.Core.Path.{_≡_};
+ghost use mathlib.Core.List.{map};
+ghost use Prim.Native.Nat.{ℕ, _+_, _^_, _≤_, _<_};
+ghost use lib.ListN.{length, getD};
+ghost use Rattle.gf2.specs.Limit.{limit};
+ghost use Rattle.field.specs.Answers.{checkedReport};
+ghost use Rattle.rows.specs.Rows.{comb};
+ghost use Rattle.sheet.specs.Record.{recordSize, conjugateAt, inverseAt};
+ghost use Rattle.sheet.specs.Answers.{listAnswer, listReport, convertedList};
+ghost use Rattle.sheet.specs.Lists.{firstLarge};
+use super::layout::CONJUGATE_AT;
+use super::layout::INVERSE_AT;
+use super::layout::RECORD;
+use super::shape::load_rows;
+use super::shape::shape_of;
+use field::Checked;
+use field::Refusal;
+use field::too_large;
+use gf2::LIMIT;
+use rows::sum;
+
+// The most values that a list may have.
+pub const LIST_LIMIT: usize = 4096;
+
+// The index of the first value that is 2^n or more, or the number of values.
+fn first_too_large(n: u32, values: &[u64]) -> usize
+    requires { ⌜ n < 64 ⌝ }
+    ensures { λ r. ⌜ r ≡ firstLarge n 0 (now (values .entry)) ⌝ }
+{
+    let mut i: usize = 0;
+    while i < values.len() {
+        if too_large(n, values[i]) {
+            return i;
+        }
+        i += 1;
+    }
+    i
+}
+
+// Every value converted by the rows.
+fn convert_all(rows: &[u64; LIMIT], from: &[u64], into: &mut [u64])
+    requires { ⌜ (length (now from) ≡ length (now into)) × ((i : ℕ) → i < length (now from) → getD (now from) i 0 < 2 ^ limit) ⌝ }
+    ensures { λ r. ⌜ now (into .exit) ≡ map (comb (now (rows .entry))) (now (from .entry)) ⌝ }
+{
+    let mut i: usize = 0;
+    while i < from.len() {
+        into[i] = sum(rows, from[i]);
+        i += 1;
+    }
+}
+
+// The list from, converted by the rows of one field into the list into.
+fn convert_list(sheet: &[u8], at: usize, from: &[u64], into: &mut [u64]) -> Checked
+    requires { ⌜ at + 8 ≤ recordSize ⌝ }
+    ensures answer { λ r. ⌜ r ≡ listAnswer (now (sheet .entry)) (now (from .entry)) (length (now (into .entry))) ⌝ }
+    ensures report { λ r. ⌜ checkedReport r ≡ listReport (now (sheet .entry)) (now (from .entry)) (length (now (into .entry))) ⌝ }
+    ensures written { λ r. ⌜ now (into .exit) ≡ convertedList (now (sheet .entry)) at (now (from .entry)) (now (into .entry)) ⌝ }
+{
+    let shape = shape_of(sheet);
+    let number = shape.number;
+    if number != 0 {
+        return Checked::Refused(shape);
+    }
+    if from.len() != into.len() {
+        return Checked::Refused(Refusal {
+            number: 11,
+            place: 0,
+        });
+    }
+    if LIST_LIMIT < from.len() {
+        return Checked::Refused(Refusal {
+            number: 11,
+            place: 0,
+        });
+    }
+    let n = (sheet.len() / RECORD) as u32;
+    let large = first_too_large(n, from);
+    if large < from.len() {
+        return Checked::Refused(Refusal {
+            number: 4,
+            place: large,
+        });
+    }
+    let rows = load_rows(sheet, at);
+    convert_all(&rows, from, into);
+    Checked::Done
+}
+
+// The elements that a list of normal coordinates stands for.
+pub fn list_to_polynomial(sheet: &[u8], from: &[u64], into: &mut [u64]) -> Checked
+    ensures answer { λ r. ⌜ r ≡ listAnswer (now (sheet .entry)) (now (from .entry)) (length (now (into .entry))) ⌝ }
+    ensures report { λ r. ⌜ checkedReport r ≡ listReport (now (sheet .entry)) (now (from .entry)) (length (now (into .entry))) ⌝ }
+    ensures written { λ r. ⌜ now (into .exit) ≡ convertedList (now (sheet .entry)) conjugateAt (now (from .entry)) (now (into .entry)) ⌝ }
+{
+    convert_list(sheet, CONJUGATE_AT, from, into)
+}
+
+// The normal coordinates of a list of elements.
+pub fn list_to_normal(sheet: &[u8], from: &[u64], into: &mut [u64]) -> Checked
+    ensures answer { λ r. ⌜ r ≡ listAnswer (now (sheet .entry)) (now (from .entry)) (length (now (into .entry))) ⌝ }
+    ensures report { λ r. ⌜ checkedReport r ≡ listReport (now (sheet .entry)) (now (from .entry)) (length (now (into .entry))) ⌝ }
+    ensures written { λ r. ⌜ now (into .exit) ≡ convertedList (now (sheet .entry)) inverseAt (now (from .entry)) (now (into .entry)) ⌝ }
+{
+    convert_list(sheet, INVERSE_AT, from, into)
+}
