@@ -41,7 +41,7 @@ shape-clear sheet = numbered-clear (shapeOrder sheet) (shape-numbered sheet)
 refuse-clear : {k p : ℕ} → refuse k p ≡ clear → ⊥
 refuse-clear e = let z : _≡_ {A = ℕ} 0 1 = cc in omega arith
 
-rule-clear : (r : Rule) (rs : List Rule) → firstOf (r ∷ rs) ≡ clear → (r .applies ≡ false) × (firstOf rs ≡ clear)
+pub rule-clear : (r : Rule) (rs : List Rule) → firstOf (r ∷ rs) ≡ clear → (r .applies ≡ false) × (firstOf rs ≡ clear)
 rule-clear r rs e =
     ⊎-elim
     (λ (p : r .applies ≡ true). absurd (refuse-clear (sym (first-applies r rs p) ∙ e)))

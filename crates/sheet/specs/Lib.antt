@@ -13,3 +13,5 @@ pub mod Converting
 pub mod Lists
 pub mod Reading
 pub mod Rebuilding
+pub mod Fields
+pub mod Written
