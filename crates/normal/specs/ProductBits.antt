@@ -232,6 +232,10 @@ module _ (n : ℕ) (pos : 1 ≤ n) (T : List ℕ) (size : length T ≡ n) (row-l
       sym (bits-make n (hornerProduct n T n u v) (hornerProduct-lt n pos T row-lt n u v hv))
       ∙ total-ext n (λ k. bitOf (hornerProduct n T n u v) k * 2 ^ k) (λ k. productBit n T u v k * 2 ^ k) (λ k h. ap (λ (x : ℕ). x * 2 ^ k) (horner-bit u v k hv h))
 
+-- the product of coordinates is a coordinate number
+pub tableProduct-lt : (n : ℕ) → 1 ≤ n → (T : List ℕ) → length T ≡ n → ((i : ℕ) → i < n → getD T i 0 < 2 ^ n) → (u v : ℕ) → v < 2 ^ n → tableProduct n T u v < 2 ^ n
+tableProduct-lt n pos T size row-lt u v hv = rw (← horner-table n pos T size row-lt u v hv) (hornerProduct-lt n pos T row-lt n u v hv)
+
 -- "Bit k of a product of normal coordinates", through the table of a normal element: converted to polynomial notation, the product of
 -- coordinates is the product of elements
 pub table-product : (f n : ℕ) (deg : Degree f n) → 2 ≤ n → squared f n n 2 ≡ 2 → (a : ℕ) → a < 2 ^ n → Independent (conjugates f n a) n → (u v : ℕ) → u < 2 ^ n → v < 2 ^ n

@@ -12,7 +12,7 @@ use Rattle.gf2.specs.Numbers.{order, pow-next}
 use Rattle.gf2.specs.Poly.{Degree}
 use Rattle.gf2.specs.Bounded.{bool-cases}
 use Rattle.field.specs.Refusals.{Rule, clear, refuse, firstOf, tooLarge}
-use Rattle.field.specs.Orders.{first-applies, first-passes, not-too-large, or-false}
+use Rattle.field.specs.Orders.{first-clear, not-too-large, or-false}
 use Rattle.rows.specs.Rows.{Matrix}
 use Rattle.normal.specs.Coordinates.{listed-at, listed-length, rows-matrix}
 use Rattle.sheet.specs.Record.{recordCount, wordSize, tableAt, fieldIn, rowsIn, tailIn, conjugateIn, inverseIn, tableIn, polynomialIn}
@@ -37,23 +37,12 @@ shape-clear sheet = numbered-clear (shapeOrder sheet) (shape-numbered sheet)
 
 -- ---- what a clear shape says
 
--- a refusal is not clear
-refuse-clear : {k p : ℕ} → refuse k p ≡ clear → ⊥
-refuse-clear e = let z : _≡_ {A = ℕ} 0 1 = cc in omega arith
-
-pub rule-clear : (r : Rule) (rs : List Rule) → firstOf (r ∷ rs) ≡ clear → (r .applies ≡ false) × (firstOf rs ≡ clear)
-rule-clear r rs e =
-    ⊎-elim
-    (λ (p : r .applies ≡ true). absurd (refuse-clear (sym (first-applies r rs p) ∙ e)))
-    (λ (p : r .applies ≡ false). (p, sym (first-passes r rs p) ∙ e))
-    (bool-cases (r .applies))
-
 records-clear : (sheet : List ℕ) (k i : ℕ) → firstOf (recordRules sheet i k) ≡ clear → (j : ℕ) → j < k → (misplaced sheet (i + j) ≡ false) × (oversized sheet (i + j) ≡ false)
 unfolding recordRules
 records-clear sheet zero i e j h = absurd (omega arith)
 records-clear sheet (suc k) i e j h =
-    let a = rule-clear (record { number = 8; place = i; applies = misplaced sheet i }) _ e in
-    let b = rule-clear (record { number = 9; place = i; applies = oversized sheet i }) (recordRules sheet (i + 1) k) (a .1) in
+    let a = first-clear (record { number = 8; place = i; applies = misplaced sheet i }) _ e in
+    let b = first-clear (record { number = 9; place = i; applies = oversized sheet i }) (recordRules sheet (i + 1) k) (a .1) in
     ⊎-elim
     (λ (u : j < 1). let z : i + j ≡ i = omega arith in rw z (a .0, b .0))
     (λ (u : 1 ≤ j).
@@ -69,7 +58,7 @@ pub record Shaped (sheet : List ℕ) : Type 0 where
 
 pub clear-shaped : (sheet : List ℕ) → firstOf (shapeOrder sheet) ≡ clear → Shaped sheet
 clear-shaped sheet e =
-    let a = rule-clear (lengthRule sheet) (recordRules sheet 0 (recordCount sheet)) e in
+    let a = first-clear (lengthRule sheet) (recordRules sheet 0 (recordCount sheet)) e in
     let at : (i : ℕ) → i < recordCount sheet → (misplaced sheet i ≡ false) × (oversized sheet i ≡ false) =
     λ i h. rw zero-add at (records-clear sheet (recordCount sheet) 0 (a .1) i h) in
     record {

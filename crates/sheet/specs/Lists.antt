@@ -108,7 +108,7 @@ map-append : (convert : ℕ → ℕ) (xs ys : List ℕ) → map convert (xs ++ y
 map-append convert [] ys = refl
 map-append convert (x ∷ xs) ys = ap (λ (l : List ℕ). convert x ∷ l) (map-append convert xs ys)
 
-map-length : (convert : ℕ → ℕ) (xs : List ℕ) → length (map convert xs) ≡ length xs
+pub map-length : (convert : ℕ → ℕ) (xs : List ℕ) → length (map convert xs) ≡ length xs
 map-length convert [] = refl
 map-length convert (x ∷ xs) = ap suc (map-length convert xs)
 

@@ -20,7 +20,7 @@ use Rattle.gf2.specs.Poly.{mulMod, Degree}
 use Rattle.gf2.specs.Bounded.{bool-cases, not-both}
 use Rattle.field.specs.Field.{squared}
 use Rattle.field.specs.Refusals.{clear, refuse, firstOf, tooLarge}
-use Rattle.field.specs.Orders.{first-applies, first-passes, first-none}
+use Rattle.field.specs.Orders.{first-applies, first-passes, first-none, first-clear}
 use Rattle.field.specs.Frobenius.{squared-lt}
 use Rattle.rows.specs.Rows.{Independent}
 use Rattle.rows.specs.Decision.{and-parts}
@@ -30,7 +30,6 @@ use Rattle.normal.specs.Selected.{conjugates-at, conjugates-length}
 use Rattle.normal.specs.Products.{Table, tableRows-table}
 use Rattle.sheet.specs.Record.{recordSize, recordCount, conjugateAt, inverseAt, tableAt, wordSize, fieldIn, rowsIn, degreeIn, rowIn, tailIn, conjugateIn, inverseIn, tableIn, recordAt, polynomialIn, recordsTo, tailOf, sheetBytes}
 use Rattle.sheet.specs.Orders.{badLength, misplaced, oversized, recordRules, same, differRules, shapeOrder, lengthRule, rebuiltFrom}
-use Rattle.sheet.specs.Clear.{Shaped, clear-shaped, rule-clear}
 use Rattle.sheet.specs.Rebuilding.{sheetBytes-length}
 use Rattle.sheet.specs.Reading.{recordAt-byte}
 use Rattle.sheet.specs.Fields.{degree-written, row-written, tail-written, conjugate-written, inverse-written, table-written}
@@ -180,7 +179,7 @@ records-same : (sheet rebuilt : List ℕ) (k i : ℕ) → firstOf (differRules s
 unfolding differRules
 records-same sheet rebuilt zero i e j h = absurd (omega arith)
 records-same sheet rebuilt (suc k) i e j h =
-    let s = rule-clear (record { number = 10; place = i; applies = not (same (recordAt sheet i) (recordAt rebuilt i)) }) (differRules sheet rebuilt (i + 1) k) e in
+    let s = first-clear (record { number = 10; place = i; applies = not (same (recordAt sheet i) (recordAt rebuilt i)) }) (differRules sheet rebuilt (i + 1) k) e in
     ⊎-elim
     (λ (u : j < 1). let z : i + j ≡ i = omega arith in rw z (same-equal (recordAt sheet i) (recordAt rebuilt i) (not-false (same (recordAt sheet i) (recordAt rebuilt i)) (s .0))))
     (λ (u : 1 ≤ j). let z : i + 1 + (j - 1) ≡ i + j = omega arith in rw z at (records-same sheet rebuilt k (i + 1) (s .1) (j - 1) (omega arith)))

@@ -1,0 +1,3 @@
+-- The demands on the desk: each theorem is a short citation of laws proved in the crates above.
+pub mod Demand1
+pub mod Demand2
