@@ -1,3 +1,4 @@
 -- The demands on the desk: each theorem is a short citation of laws proved in the crates above.
 pub mod Demand1
 pub mod Demand2
+pub mod Examples

@@ -1,0 +1,99 @@
+-- The small numbers of document 01 ("Small numbers to hold it against"), of what the calls answer.
+--
+--   Issued, Refused, Converted, Multiplied, Rejected   what a line says of the calls
+--   examples          the twelve lines marked P, in one table
+--   bytes, damaged    the sheet file's own line: a record in bytes, and the refusals of two sheets that lost a record
+--
+-- Assumes nothing.
+use mathlib.Core.Path.{_≡_, refl}
+use mathlib.Core.Bool.{_||_}
+use mathlib.Core.List.{List, [], _∷_, _++_}
+use Prim.Native.Nat.{ℕ, _*_}
+use lib.Count.{ones, onesIn}
+use lib.ListN.{take, drop, replicate}
+use Rattle.gf2.specs.Poly.{_⊕_, digitsFrom, digits, product, degree, reduce, rem, mulMod, divides}
+use Rattle.gf2.specs.Bounded.{some, first}
+use Rattle.field.specs.Field.{squared}
+use Rattle.field.specs.Accepted.{degreeOutside, divided, strays}
+use Rattle.field.specs.Refusals.{firstOf, tooLarge}
+use Rattle.field.specs.Answers.{Report, reportOf, checkReport}
+use Rattle.rows.specs.Bits.{bitOf}
+use Rattle.rows.specs.Rows.{comb, independent}
+use Rattle.normal.specs.Normal.{conjugatesFrom, conjugates, normal, coordinates, listed, inverseRows, tableRows, complexity}
+use Rattle.normal.specs.Grades.{prime, gradeOf, gradeNumber}
+use Rattle.normal.specs.TableProduct.{total, productBit, tableProduct}
+use Rattle.sheet.specs.Record.{recordSize, conjugateAt, inverseAt, tableAt, bytesOf, numberIn, recordBytes, recordsTo, sheetBytes, fieldIn, rowsIn, recordAt}
+use Rattle.sheet.specs.Orders.{badLength, misplaced, oversized, recordRules, same, differRules, valueRules}
+use Rattle.sheet.specs.Answers.{Issue, issueOf, summaryOf, buildReport, written, builtBuffer, readReport, convertedBy, convertReport, polynomialReport, normalReport, throughTable, timesReport}
+
+-- a buffer of 32n bytes, all zero, in which the sheet is built
+abbrev blank : (f : ℕ) → List ℕ
+blank f = replicate (recordSize * degree f) 0
+
+-- what the buffer holds once the sheet of f and a is built
+abbrev pub sheetOf : (f a : ℕ) → List ℕ
+sheetOf f a = builtBuffer f a (blank f)
+
+abbrev done : (value : ℕ) → Report
+done x = record { number = 0; place = 0; value = x }
+
+abbrev refused : (number place : ℕ) → Report
+refused k p = record { number = k; place = p; value = 0 }
+
+abbrev unissued : (number place : ℕ) → Issue
+unissued k p = record { number = k; place = p; degree = 0; complexity = 0; grade = 0 }
+
+-- the sheet of f and a has these rows, this complexity and this grade
+abbrev pub Issued : (f a : ℕ) (conjugates inverse table : List ℕ) (complexity grade : ℕ) → Type 0
+Issued f a C I T k g =
+    (buildReport f a (recordSize * degree f) ≡ record { number = 0; place = 0; degree = degree f; complexity = k; grade = g })
+    × (rowsIn (sheetOf f a) conjugateAt ≡ C) × (rowsIn (sheetOf f a) inverseAt ≡ I) × (rowsIn (sheetOf f a) tableAt ≡ T)
+
+-- no sheet of f and a is built, for this reason
+abbrev pub Refused : (f a number : ℕ) → Type 0
+Refused f a k = buildReport f a (recordSize * degree f) ≡ unissued k 0
+
+-- on the sheet of f and a the element y has these coordinates
+abbrev pub Converted : (f a y coordinates : ℕ) → Type 0
+Converted f a y v = normalReport (sheetOf f a) y ≡ done v
+
+-- on the sheet of f and a these coordinates have this product, which is the element y
+abbrev pub Multiplied : (f a left right product y : ℕ) → Type 0
+Multiplied f a u v p y = (timesReport (sheetOf f a) u v ≡ done p) × (polynomialReport (sheetOf f a) p ≡ done y)
+
+-- f is not accepted, for this reason
+abbrev pub Rejected : (f number : ℕ) → Type 0
+Rejected f k = checkReport f ≡ refused k 0
+
+-- ---- the table
+
+pub examples : Issued 7 2 (2 ∷ 3 ∷ []) (3 ∷ 1 ∷ []) (2 ∷ 3 ∷ []) 3 1
+    × Refused 7 1 5
+    × Refused 7 0 5
+    × Refused 7 4 4
+    × Issued 11 3 (3 ∷ 5 ∷ 7 ∷ []) (7 ∷ 6 ∷ 5 ∷ []) (2 ∷ 5 ∷ 6 ∷ []) 5 2
+    × Refused 11 2 5
+    × Converted 11 3 6 3
+    × Multiplied 11 3 1 2 5 4
+    × Issued 19 8 (8 ∷ 12 ∷ 15 ∷ 10 ∷ []) (15 ∷ 9 ∷ 3 ∷ 1 ∷ []) (2 ∷ 8 ∷ 15 ∷ 4 ∷ []) 7 1
+    × Issued 19 9 (9 ∷ 13 ∷ 14 ∷ 11 ∷ []) (15 ∷ 9 ∷ 3 ∷ 14 ∷ []) (2 ∷ 11 ∷ 5 ∷ 13 ∷ []) 9 0
+    × Rejected 5 2
+    × Rejected 3 1
+unfolding buildReport builtBuffer written checkReport convertReport timesReport reportOf issueOf summaryOf convertedBy throughTable firstOf badLength misplaced oversized recordRules valueRules tooLarge fieldIn numberIn rowsIn bytesOf recordBytes recordsTo sheetBytes degreeOutside divided strays divides degree some first normal independent conjugates conjugatesFrom squared inverseRows tableRows listed coordinates comb mulMod rem reduce product digits digitsFrom _⊕_ complexity ones onesIn gradeOf gradeNumber prime tableProduct productBit total bitOf
+examples = ((refl, refl, refl, refl), refl, refl, refl, (refl, refl, refl, refl), refl, refl, (refl, refl), (refl, refl, refl, refl), (refl, refl, refl, refl), refl, refl)
+
+-- ---- the line on the sheet file
+
+-- "Sheet of f = 7, element 2, record 1 in hex: 02 01 03, five 00, then 03, 01, 03, each followed by seven 00."
+abbrev zeros : ℕ → List ℕ
+zeros k = replicate k 0
+
+pub bytes : recordAt (sheetOf 7 2) 1 ≡ (2 ∷ 1 ∷ 3 ∷ zeros 5) ++ (3 ∷ zeros 7) ++ (1 ∷ zeros 7) ++ (3 ∷ zeros 7)
+unfolding recordAt builtBuffer written firstOf tooLarge bytesOf recordBytes recordsTo sheetBytes degreeOutside divided strays divides degree some first normal independent conjugates conjugatesFrom squared inverseRows tableRows listed coordinates comb mulMod rem reduce product digits digitsFrom _⊕_
+bytes = refl
+
+-- "The same sheet without record 0: refusal 7. The sheet of 11 and 3 without its middle record: refusal 8, place 0."
+pub damaged : (readReport (drop recordSize (sheetOf 7 2)) ≡ unissued 7 0)
+    × (readReport (recordAt (sheetOf 11 3) 0 ++ recordAt (sheetOf 11 3) 2) ≡ unissued 8 0)
+unfolding readReport issueOf recordAt builtBuffer written firstOf badLength misplaced recordRules fieldIn numberIn tooLarge bytesOf recordBytes recordsTo sheetBytes degreeOutside divided strays divides degree some first normal independent conjugates conjugatesFrom squared inverseRows tableRows listed coordinates comb mulMod rem reduce product digits digitsFrom _⊕_
+damaged = (refl, refl)
