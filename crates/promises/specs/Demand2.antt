@@ -15,11 +15,10 @@ use mathlib.Core.Logic.{_↔_, ⊎-elim}
 use mathlib.Core.Bool.{Bool, true, false, not}
 use mathlib.Core.List.{List, [], _∷_, _++_, map}
 use Prim.Native.Nat.{ℕ, zero, suc, _+_, _*_, _^_, _≤_, _<_}
-use native.Mathlib.Nat.{le-of-suc-le-suc}
 use native.Mathlib.Omega.{arith}
 use lib.ListN.{length, getD, drop}
 use lib.Pow.{pow-pos}
-use borrow.Author.Tests.{lt-leb, le-ltb, eq-eqb}
+use borrow.Author.Tests.{lt-leb, le-ltb}
 use Rattle.gf2.specs.Limit.{limit}
 use Rattle.gf2.specs.Bounded.{bool-cases, not-both}
 use Rattle.gf2.specs.Degrees.{degree-eq}
@@ -28,25 +27,24 @@ use Rattle.field.specs.Accepted.{Accepted, degreeOutside}
 use Rattle.field.specs.Answers.{valueOf, multiplyAnswer}
 use Rattle.field.specs.Checked.{accepted-degree, accepted-returns}
 use Rattle.field.specs.Field.{squared}
-use Rattle.field.specs.Frobenius.{squared-lt}
-use Rattle.field.specs.Orders.{InRange, first-passes, first-none, first-clear, any-next}
+use Rattle.field.specs.Orders.{first-passes, first-none, first-clear, any-next}
 use Rattle.field.specs.Refusals.{Verdict, clear, refuse, firstOf, numberOf, tooLarge, degreeRule, divisorRule, returnRule, elementRule, fieldOrder}
 use Rattle.field.specs.declared.answer.Value.the-variants as value
 use Rattle.rows.specs.Rows.{comb, Independent}
 use Rattle.normal.specs.Normal.{conjugates, normal, inverseRows, tableRows}
-use Rattle.normal.specs.Coordinates.{normal-means, conjugates-matrix, inverseRows-inverse}
+use Rattle.normal.specs.Coordinates.{normal-means, inverseRows-inverse}
 use Rattle.normal.specs.Coordinates as coordinates
 use Rattle.normal.specs.Products.{tableRows-table}
 use Rattle.normal.specs.ProductBits.{table-product, tableProduct-lt}
 use Rattle.normal.specs.Selected.{conjugates-at, selected-lt}
 use Rattle.rows.specs.Sums.{comb-lt}
-use Rattle.sheet.specs.Record.{recordSize, recordCount, conjugateAt, inverseAt, tableAt, conjugateIn, tableIn, rowsIn, polynomialIn, sheetBytes}
-use Rattle.sheet.specs.Orders.{buildOrder, basisOrder, normalRule, differRules, shapeOrder, valueOrder, rebuiltFrom, readOrder, listLimit, valueRules, listOrder}
+use Rattle.sheet.specs.Record.{recordSize, recordCount, conjugateAt, inverseAt, conjugateIn, tableIn, polynomialIn, sheetBytes}
+use Rattle.sheet.specs.Orders.{buildOrder, basisOrder, normalRule, differRules, shapeOrder, rebuiltFrom, readOrder, listLimit, valueRules, listOrder}
 use Rattle.sheet.specs.Answers.{refusedAt, issuedOf, summaryOf, buildAnswer, written, builtBuffer, convertedBy, convertAnswer, normalAnswer, polynomialAnswer, throughTable, timesAnswer, listWritten, convertedList, readAnswer}
 use Rattle.sheet.specs.Basis.{basis-tied, basis-clear}
 use Rattle.sheet.specs.Building.{build-basis}
 use Rattle.sheet.specs.Clear.{Shaped, clear-shaped, fields-lt, polynomial-degree}
-use Rattle.sheet.specs.Converting.{value-passes, part-clear}
+use Rattle.sheet.specs.Converting.{value-passes}
 use Rattle.sheet.specs.Lists.{list-values, map-length}
 use Rattle.sheet.specs.Reading.{read-records}
 use Rattle.sheet.specs.Rebuilding.{sheetBytes-length}

@@ -10,7 +10,7 @@ use mathlib.Core.Bool.{_||_}
 use mathlib.Core.List.{List, [], _∷_, _++_}
 use Prim.Native.Nat.{ℕ, _*_}
 use lib.Count.{ones, onesIn}
-use lib.ListN.{take, drop, replicate}
+use lib.ListN.{drop, replicate}
 use Rattle.gf2.specs.Poly.{_⊕_, digitsFrom, digits, product, degree, reduce, rem, mulMod, divides}
 use Rattle.gf2.specs.Bounded.{some, first}
 use Rattle.field.specs.Field.{squared}
@@ -23,7 +23,7 @@ use Rattle.normal.specs.Normal.{conjugatesFrom, conjugates, normal, coordinates
 use Rattle.normal.specs.Grades.{prime, gradeOf, gradeNumber}
 use Rattle.normal.specs.TableProduct.{total, productBit, tableProduct}
 use Rattle.sheet.specs.Record.{recordSize, conjugateAt, inverseAt, tableAt, bytesOf, numberIn, recordBytes, recordsTo, sheetBytes, fieldIn, rowsIn, recordAt}
-use Rattle.sheet.specs.Orders.{badLength, misplaced, oversized, recordRules, same, differRules, valueRules}
+use Rattle.sheet.specs.Orders.{badLength, misplaced, oversized, recordRules, valueRules}
 use Rattle.sheet.specs.Answers.{Issue, issueOf, summaryOf, buildReport, written, builtBuffer, readReport, convertedBy, convertReport, polynomialReport, normalReport, throughTable, timesReport}
 
 -- a buffer of 32n bytes, all zero, in which the sheet is built

@@ -1,17 +1,16 @@
 -- What a sheet of good shape has: its size, its places, and numbers below 2 ^ n.
 -- Assumes nothing.
-use mathlib.Core.Path.{_≡_, sym, _∙_}
+use mathlib.Core.Path.{_≡_}
 use mathlib.Core.Logic.{⊎-elim}
-use mathlib.Core.Bool.{true, false, _||_}
-use mathlib.Core.List.{List, [], _∷_}
+use mathlib.Core.Bool.{false, _||_}
+use mathlib.Core.List.{List, []}
 use Prim.Native.Nat.{ℕ, zero, suc, _+_, _-_, _^_, _≤_, _<_}
 use native.Mathlib.Nat.{zero-add}
 use native.Mathlib.Omega.{arith}
 use lib.ListN.{length}
 use Rattle.gf2.specs.Numbers.{order, pow-next}
 use Rattle.gf2.specs.Poly.{Degree}
-use Rattle.gf2.specs.Bounded.{bool-cases}
-use Rattle.field.specs.Refusals.{Rule, clear, refuse, firstOf, tooLarge}
+use Rattle.field.specs.Refusals.{Rule, clear, firstOf, tooLarge}
 use Rattle.field.specs.Orders.{first-clear, not-too-large, or-false}
 use Rattle.rows.specs.Rows.{Matrix}
 use Rattle.normal.specs.Coordinates.{listed-at, listed-length, rows-matrix}

@@ -1,16 +1,16 @@
 -- The fields of a sheet that was written: each holds the number that was put there.
 -- Assumes nothing.
-use mathlib.Core.Path.{_≡_, refl, sym, ap, ap₂, _∙_}
+use mathlib.Core.Path.{_≡_, refl, sym, ap, _∙_}
 use mathlib.Core.Logic.{⊎-elim}
-use mathlib.Core.List.{List, [], _∷_, _++_, append-assoc, append-nil}
-use Prim.Native.Nat.{ℕ, zero, suc, _+_, _-_, _*_, _^_, _≤_, _<_}
-use native.Mathlib.Nat.{zero-add, add-zero}
+use mathlib.Core.List.{List, [], _∷_, _++_, append-nil}
+use Prim.Native.Nat.{ℕ, zero, suc, _+_, _*_, _^_, _≤_, _<_}
+use native.Mathlib.Nat.{zero-add}
 use native.Mathlib.Omega.{arith}
-use lib.ListN.{length, getD, take, drop, length-append}
-use lib.Seq.{take-at, drop-at, take-append-le, drop-append-le, take-take, drop-drop, drop-append-add}
+use lib.ListN.{length, getD, take, drop}
+use lib.Seq.{take-at, drop-at, take-take, drop-drop}
 use Rattle.gf2.specs.Numbers.{order}
 use Rattle.sheet.specs.Record.{recordSize, degreeAt, rowAt, tailAt, conjugateAt, inverseAt, tableAt, byteSize, tailSize, wordSize, bytesOf, numberIn, recordBytes, recordsTo, recordAt, fieldIn}
-use Rattle.sheet.specs.Bytes.{bytesOf-length, numberIn-bytesOf}
+use Rattle.sheet.specs.Bytes.{numberIn-bytesOf}
 use Rattle.sheet.specs.Writing.{recordBytes-length, recordsTo-length}
 use Rattle.sheet.specs.Reading.{recordAt-front}
 

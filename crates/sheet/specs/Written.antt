@@ -3,32 +3,30 @@
 -- Assumes nothing.
 use mathlib.Core.Path.{_≡_, refl, sym, ap, ap₂, _∙_}
 use mathlib.Core.Logic.{⊎-elim}
-use mathlib.Core.Bool.{Bool, true, false, not, _&&_, _||_}
-use mathlib.Core.List.{List, [], _∷_, _++_}
+use mathlib.Core.Bool.{true, false, not, _&&_, _||_}
+use mathlib.Core.List.{List, [], _∷_}
 use Prim.Native.Nat.{ℕ, zero, suc, _+_, _-_, _*_, _/_, _%_, _^_, _≤_, _<_}
 use native.Mathlib.Nat.{add-sub-of-le, zero-add}
-use native.Mathlib.Numerals.{add-one}
 use native.Mathlib.Omega.{arith}
-use lib.Dec.{ltb, eqb}
-use lib.ListN.{length, getD, take, drop}
+use lib.Dec.{eqb}
+use lib.ListN.{length, getD}
 use lib.Pow.{pow-mono}
 use lib.Seq.{ext-getD}
-use borrow.Author.Tests.{lt-leb, le-ltb, eq-eqb, eqb-true, not-true, not-false}
+use borrow.Author.Tests.{lt-leb, le-ltb, eq-eqb, eqb-true, not-false}
 use Rattle.gf2.specs.Limit.{limit}
 use Rattle.gf2.specs.Numbers.{order, pow-next}
-use Rattle.gf2.specs.Poly.{mulMod, Degree}
-use Rattle.gf2.specs.Bounded.{bool-cases, not-both}
+use Rattle.gf2.specs.Poly.{Degree}
+use Rattle.gf2.specs.Bounded.{not-both}
 use Rattle.field.specs.Field.{squared}
-use Rattle.field.specs.Refusals.{clear, refuse, firstOf, tooLarge}
-use Rattle.field.specs.Orders.{first-applies, first-passes, first-none, first-clear}
-use Rattle.field.specs.Frobenius.{squared-lt}
+use Rattle.field.specs.Refusals.{clear, firstOf, tooLarge}
+use Rattle.field.specs.Orders.{first-passes, first-none, first-clear}
 use Rattle.rows.specs.Rows.{Independent}
 use Rattle.rows.specs.Decision.{and-parts}
 use Rattle.normal.specs.Normal.{conjugates, inverseRows, tableRows, listed}
-use Rattle.normal.specs.Coordinates.{listed-at, listed-length, conjugates-matrix, inverseRows-length, inverseRows-inverse, tableRows-length}
+use Rattle.normal.specs.Coordinates.{listed-at, listed-length, conjugates-matrix, inverseRows-length, inverseRows-inverse}
 use Rattle.normal.specs.Selected.{conjugates-at, conjugates-length}
 use Rattle.normal.specs.Products.{Table, tableRows-table}
-use Rattle.sheet.specs.Record.{recordSize, recordCount, conjugateAt, inverseAt, tableAt, wordSize, fieldIn, rowsIn, degreeIn, rowIn, tailIn, conjugateIn, inverseIn, tableIn, recordAt, polynomialIn, recordsTo, tailOf, sheetBytes}
+use Rattle.sheet.specs.Record.{recordSize, recordCount, conjugateAt, inverseAt, tableAt, wordSize, fieldIn, rowsIn, degreeIn, rowIn, tailIn, conjugateIn, inverseIn, tableIn, recordAt, polynomialIn, tailOf, sheetBytes}
 use Rattle.sheet.specs.Orders.{badLength, misplaced, oversized, recordRules, same, differRules, shapeOrder, lengthRule, rebuiltFrom}
 use Rattle.sheet.specs.Rebuilding.{sheetBytes-length}
 use Rattle.sheet.specs.Reading.{recordAt-byte}
