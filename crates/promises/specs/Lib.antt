@@ -1,4 +1,6 @@
 -- The demands on the desk: each theorem is a short citation of laws proved in the crates above.
+pub mod Accepting
 pub mod Demand1
 pub mod Demand2
 pub mod Examples
+pub mod Issuing
