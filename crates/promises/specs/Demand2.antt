@@ -129,7 +129,7 @@ module _ (f : ℕ) (acc : Accepted f) (a : ℕ) (ha : a < 2 ^ degree f) where
         ⊎-elim
         (λ (e : normal f (degree f) a ≡ true). absurd (tied (normal-means f (degree f) a .0 e)))
         (λ (e : normal f (degree f) a ≡ false).
-          ap (λ (v : Verdict). issuedOf v (summaryOf f (degree f) a)) (verdict ∙ basis-tied f (degree f) a 0 (accepted-field f acc) refl e))
+        ap (λ (v : Verdict). issuedOf v (summaryOf f (degree f) a)) (verdict ∙ basis-tied f (degree f) a 0 (accepted-field f acc) refl e))
         (bool-cases (normal f (degree f) a))
 
   -- ---- the issued sheet
@@ -240,12 +240,12 @@ module _ (f : ℕ) (acc : Accepted f) (a : ℕ) (ha : a < 2 ^ degree f) where
       convertedBy (sheetBytes f (degree f) a) conjugateAt u,
       convertedBy (sheetBytes f (degree f) a) conjugateAt v,
       ap (λ (w : Verdict). valueOf w (throughTable (sheetBytes f (degree f) a) u v))
-      (value-passes (sheetBytes f (degree f) a) (written-shape f (degree f) a deg two most ha free) (u ∷ v ∷ [])
-      (rw count (any-next (degree f) u (v ∷ []) (small (degree f) u hu) (any-next (degree f) v [] (small (degree f) v hv) refl)))),
+          (value-passes (sheetBytes f (degree f) a) (written-shape f (degree f) a deg two most ha free) (u ∷ v ∷ [])
+          (rw count (any-next (degree f) u (v ∷ []) (small (degree f) u hu) (any-next (degree f) v [] (small (degree f) v hv) refl)))),
       converts conjugateAt u hu,
       converts conjugateAt v hv,
       converts conjugateAt (throughTable (sheetBytes f (degree f) a) u v) (product-lt u v hv) ∙ ap value.Done (product-is u v hu hv)
-      ∙ sym (multiplied _ _ (element-lt u hu) (element-lt v hv)),
+          ∙ sym (multiplied _ _ (element-lt u hu) (element-lt v hv)),
     )
 
     -- ---- lists
@@ -342,12 +342,16 @@ read-exactly sheet = (
       let s : List ℕ = sheetBytes (w .f) n (w .a) in
       let cs : firstOf (shapeOrder s) ≡ clear = written-shape (w .f) n (w .a) (g .is-degree) (g .two) (g .most) (w .element) (w .free) in
       let basis : firstOf (basisOrder (polynomialIn s) (recordCount s) (conjugateIn s 0)) ≡ clear =
-      rw (written-polynomial (w .f) n (w .a) (g .is-degree) (g .two) (g .most) (w .element) (w .free), written-count (w .f) n (w .a) (g .is-degree) (g .two) (g .most) (w .element) (w .free),
-      written-element (w .f) n (w .a) (g .is-degree) (g .two) (g .most) (w .element) (w .free))
+      rw (
+        written-polynomial (w .f) n (w .a) (g .is-degree) (g .two) (g .most) (w .element) (w .free),
+        written-count (w .f) n (w .a) (g .is-degree) (g .two) (g .most) (w .element) (w .free),
+        written-element (w .f) n (w .a) (g .is-degree) (g .two) (g .most) (w .element) (w .free),
+      )
       (basis-clear (w .f) n (w .a) 0 (accepted-field (w .f) (w .accepted)) refl (normal-means (w .f) n (w .a) .1 (w .free))) in
       let differ : firstOf (differRules s (rebuiltFrom s) 0 (recordCount s)) ≡ clear =
       rw (written-rebuilt (w .f) n (w .a) (g .is-degree) (g .two) (g .most) (w .element) (w .free)) (itself-clear s 0 (recordCount s)) in
-      let c : firstOf (readOrder s) ≡ clear = read-records s cs basis ∙ differ in
-      (summaryOf (polynomialIn sheet) (recordCount sheet) (conjugateIn sheet 0),
-      ap (λ (v : Verdict). issuedOf v (summaryOf (polynomialIn sheet) (recordCount sheet) (conjugateIn sheet 0))) (ap (λ (l : List ℕ). firstOf (readOrder l)) (w .is) ∙ c)),
+      let c : firstOf (readOrder s) ≡ clear = read-records s cs basis ∙ differ in (
+        summaryOf (polynomialIn sheet) (recordCount sheet) (conjugateIn sheet 0),
+        ap (λ (v : Verdict). issuedOf v (summaryOf (polynomialIn sheet) (recordCount sheet) (conjugateIn sheet 0))) (ap (λ (l : List ℕ). firstOf (readOrder l)) (w .is) ∙ c),
+      ),
 )

@@ -32,8 +32,8 @@ recordAt-written (suc m) k n tail C I T h =
     ⊎-elim
     (λ (u : k < m). recordAt-front xs k last (omega arith) ∙ recordAt-written m k n tail C I T u)
     (λ (u : m ≤ k).
-      let e : k ≡ m = omega arith in
-      rw e (recordAt-last xs last m size (recordBytes-length n m tail (getD C m 0) (getD I m 0) (getD T m 0))))
+    let e : k ≡ m = omega arith in
+    rw e (recordAt-last xs last m size (recordBytes-length n m tail (getD C m 0) (getD I m 0) (getD T m 0))))
     (order k m)
 
 -- ---- a field of a record

@@ -114,8 +114,11 @@ module _ (f n a : ℕ) (deg : Degree f n) (two : 2 ≤ n) (most : n ≤ limit) (
   in-place : (i : ℕ) → i < n → misplaced sheet i ≡ false
   unfolding misplaced
   in-place i h =
-      rw (eq-eqb (degreeIn sheet i) (recordCount sheet) (degree-is i h ∙ sym written-count), eq-eqb (rowIn sheet i) i (row-is i h),
-      eq-eqb (tailIn sheet i) (tailIn sheet 0) (tail-is i h ∙ sym (tail-is 0 (omega arith))))
+      rw (
+        eq-eqb (degreeIn sheet i) (recordCount sheet) (degree-is i h ∙ sym written-count),
+        eq-eqb (rowIn sheet i) i (row-is i h),
+        eq-eqb (tailIn sheet i) (tailIn sheet 0) (tail-is i h ∙ sym (tail-is 0 (omega arith))),
+      )
 
   not-large : (v : ℕ) → v < 2 ^ n → tooLarge (recordCount sheet) v ≡ false
   unfolding tooLarge
@@ -124,10 +127,12 @@ module _ (f n a : ℕ) (deg : Degree f n) (two : 2 ≤ n) (most : n ≤ limit) (
   in-size : (i : ℕ) → i < n → oversized sheet i ≡ false
   unfolding oversized
   in-size i h =
-      rw (not-large (tailIn sheet i) (rw (tail-is i h) tail-lt),
-      not-large (conjugateIn sheet i) (rw (conjugate-is i h) (conjugates-matrix f n deg a ha .row-lt i)),
-      not-large (inverseIn sheet i) (rw (inverse-is i h) (inverseRows-inverse f n deg a ha free .shape .row-lt i)),
-      not-large (tableIn sheet i) (rw (table-is i h) (tab .row-lt i h)))
+      rw (
+        not-large (tailIn sheet i) (rw (tail-is i h) tail-lt),
+        not-large (conjugateIn sheet i) (rw (conjugate-is i h) (conjugates-matrix f n deg a ha .row-lt i)),
+        not-large (inverseIn sheet i) (rw (inverse-is i h) (inverseRows-inverse f n deg a ha free .shape .row-lt i)),
+        not-large (tableIn sheet i) (rw (table-is i h) (tab .row-lt i h)),
+      )
 
   walk : (k i : ℕ) → i + k ≤ n → firstOf (recordRules sheet i k) ≡ clear
   unfolding recordRules
@@ -190,10 +195,10 @@ pub same-sheets : (sheet rebuilt : List ℕ) (n : ℕ) → length sheet ≡ reco
 same-sheets sheet rebuilt n es er e =
     ext-getD 0 sheet rebuilt (es ∙ sym er)
     (λ j l.
-      let i : ℕ = j / 32 in
-      let k : ℕ = j % 32 in
-      let hk : k < 32 = omega arith in
-      let hi : i < n = omega arith in
-      let s : 32 * i + k ≡ j = omega arith in
-      let r : recordAt sheet i ≡ recordAt rebuilt i = rw zero-add at (records-same sheet rebuilt n 0 e i hi) in
-      ap (λ (m : ℕ). getD sheet m 0) (sym s) ∙ sym (recordAt-byte sheet i k hk) ∙ ap (λ (x : List ℕ). getD x k 0) r ∙ recordAt-byte rebuilt i k hk ∙ ap (λ (m : ℕ). getD rebuilt m 0) s)
+    let i : ℕ = j / 32 in
+    let k : ℕ = j % 32 in
+    let hk : k < 32 = omega arith in
+    let hi : i < n = omega arith in
+    let s : 32 * i + k ≡ j = omega arith in
+    let r : recordAt sheet i ≡ recordAt rebuilt i = rw zero-add at (records-same sheet rebuilt n 0 e i hi) in
+    ap (λ (m : ℕ). getD sheet m 0) (sym s) ∙ sym (recordAt-byte sheet i k hk) ∙ ap (λ (x : List ℕ). getD x k 0) r ∙ recordAt-byte rebuilt i k hk ∙ ap (λ (m : ℕ). getD rebuilt m 0) s)
