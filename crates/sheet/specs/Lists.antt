@@ -11,7 +11,7 @@ use native.Mathlib.Nat.{le-of-suc-le-suc, not-suc-le-zero}
 use native.Mathlib.Numerals.{add-one}
 use native.Mathlib.Omega.{arith}
 use lib.ListN.{length, getD, set, take, drop, drop-of-length-le, length-append, length-drop}
-use lib.Seq.{drop-cons, set-at, take-suc, append-snoc, take-all}
+use lib.Seq.{drop-cons, set-at, getD-at, take-suc, append-snoc, take-all}
 use borrow.Author.Tests.{lt-ltb, le-ltb, eq-eqb, ne-eqb}
 use Rattle.field.specs.Refusals.{clear, refuse, firstOf, tooLarge}
 use Rattle.field.specs.Answers.{checkedOf, checkedReport, checked-report}
@@ -125,6 +125,14 @@ fill-turn convert from start into i x h e ex inv =
     let hs : i < length start = omega arith in
     rw (inv, drop-cons start i 0 hs, set-at front (getD start i 0) (drop (suc i) start) x i size, add-one, take-suc from i 0 h, map-append, ex)
     (sym (append-snoc front (convert (getD from i 0)) (drop (suc i) start)))
+
+-- so a list may be converted where it stands: the value at i is the one that came
+pub fill-rest : (convert : ℕ → ℕ) (from start into : List ℕ) (i : ℕ) → i < length from → length from ≡ length start → FilledTo convert from start into i → getD into i 0 ≡ getD start i 0
+fill-rest convert from start into i h e inv =
+    let front : List ℕ = map convert (take i from) in
+    let size : length front ≡ i = map-length convert (take i from) ∙ take-size i from (omega arith) in
+    let hs : i < length start = omega arith in
+    rw (inv, drop-cons start i 0 hs) (getD-at front (getD start i 0) (drop (suc i) start) 0 i size)
 
 pub fill-done : (convert : ℕ → ℕ) (from start into : List ℕ) (i : ℕ) → length from ≤ i → length from ≡ length start → FilledTo convert from start into i → into ≡ map convert from
 fill-done convert from start into i h e inv =

@@ -38,14 +38,26 @@ fn first_too_large(n: u32, values: &[u64]) -> usize
     i
 }
 
-// Every value converted by the rows.
-fn convert_all(rows: &[u64; LIMIT], from: &[u64], into: &mut [u64])
-    requires { ⌜ (length (now from) ≡ length (now into)) × ((i : ℕ) → i < length (now from) → getD (now from) i 0 < 2 ^ limit) ⌝ }
-    ensures { λ r. ⌜ now (into .exit) ≡ map (comb (now (rows .entry))) (now (from .entry)) ⌝ }
+// The list from, copied into the list into, where it is then converted.
+fn copy(from: &[u64], into: &mut [u64])
+    requires { ⌜ length (now from) ≡ length (now into) ⌝ }
+    ensures { λ r. ⌜ now (into .exit) ≡ now (from .entry) ⌝ }
 {
     let mut i: usize = 0;
     while i < from.len() {
-        into[i] = sum(rows, from[i]);
+        into[i] = from[i];
+        i += 1;
+    }
+}
+
+// Every value converted by the rows, where it stands.
+fn convert_all(rows: &[u64; LIMIT], list: &mut [u64])
+    requires { ⌜ ((i : ℕ) → i < length (now list) → getD (now list) i 0 < 2 ^ limit) ⌝ }
+    ensures { λ r. ⌜ now (list .exit) ≡ map (comb (now (rows .entry))) (now (list .entry)) ⌝ }
+{
+    let mut i: usize = 0;
+    while i < list.len() {
+        list[i] = sum(rows, list[i]);
         i += 1;
     }
 }
@@ -83,7 +95,8 @@ fn convert_list(sheet: &[u8], at: usize, from: &[u64], into: &mut [u64]) -> Chec
         });
     }
     let rows = load_rows(sheet, at);
-    convert_all(&rows, from, into);
+    copy(from, into);
+    convert_all(&rows, into);
     Checked::Done
 }
 

@@ -2,11 +2,12 @@
 -- Assumes nothing.
 use mathlib.Core.Path.{_≡_, refl, sym, ap, ap₂, _∙_}
 use mathlib.Core.List.{List, [], _∷_, map}
-use Prim.Native.Nat.{ℕ}
+use Prim.Native.Nat.{ℕ, _^_, _<_}
 use native.Mathlib.Omega.{arith}
 use borrow.Author.Needs.{needs}
-use lib.ListN.{length}
+use lib.ListN.{length, getD}
 use lib.Pow.{pow-mono}
+use Rattle.gf2.specs.Limit.{limit}
 use Rattle.field.specs.declared.answer.Refusal.{Refusal}
 use Rattle.rows.specs.Rows.{comb}
 use Rattle.normal.specs.Normal.{padded}
@@ -25,6 +26,10 @@ unfolding convertedBy
 map-loaded sheet at e [] = refl
 map-loaded sheet at e (v ∷ vs) =
     ap₂ {C = List ℕ} (λ (x : ℕ) (l : List ℕ). x ∷ l) (rw e (padded-comb (rowsIn sheet at) v)) (map-loaded sheet at e vs)
+
+-- the values that were copied are small as those that came
+copied-small : {copied from : List ℕ} → copied ≡ from → ((i : ℕ) → i < length from → getD from i 0 < 2 ^ limit) → (i : ℕ) → i < length copied → getD copied i 0 < 2 ^ limit
+copied-small e small = rw e small
 
 shape-of-requires : tie.Need-shape-of-requires
 shape-of-requires c κs = search needs
@@ -96,9 +101,13 @@ load-rows-requires c κs =
     let z = clear-shaped (s .args .sheet .now) k in
     (z .size .most, s .pre)
 
+copy-requires : tie.Need-copy-requires
+copy-requires c κs = c .before .before .before .before .before .if2 .left
+
 convert-all-requires : tie.Need-convert-all-requires
 convert-all-requires c κs =
-    let x = c .before .before .before in
+    let w = c .before .before .before .before in
+    let x = w .before .before .before in
     let t = x .before in
     let q = t .before .before in
     let e = q .before in
@@ -108,7 +117,7 @@ convert-all-requires c κs =
     let z = clear-shaped (s .args .sheet .now) k in
     let n = recordCount (s .args .sheet .now) in
     let v = small-verdict n 0 (s .args .from .now) (omega (arith, t .first-too-large .ensures, x .if4 .left)) in
-    (q .if2 .left, λ i h. omega (arith, v .1 i h, pow-mono (z .size .most)))
+    copied-small (w .copy .ensures) λ i l. omega (arith, v .1 i l, pow-mono (z .size .most))
 
 same-length : tie.Need-same-length
 same-length c = search needs
@@ -116,7 +125,8 @@ same-length c = search needs
 returns-5 : tie.Need-returns-5
 returns-5 c =
     let a = c .before .before in
-    let r = a .before .before .before in
+    let y = a .before .before .before .before .before in
+    let r = y .before .before in
     let x = r .before in
     let t = x .before in
     let w = t .before in
@@ -128,7 +138,7 @@ returns-5 c =
     let z = clear-shaped (s .args .sheet .now) k in
     let n = recordCount (s .args .sheet .now) in
     let v = small-verdict n 0 (s .args .from .now) (omega (arith, t .first-too-large .ensures, x .if4 .left)) in
-    list-done (s .args .sheet .now) (s .args .at) (s .args .from .now) (s .args .into .now) (a .convert-all .ensures ∙ map-loaded (s .args .sheet .now) (s .args .at) (r .load-rows .ensures) (s .args .from .now))
+    list-done (s .args .sheet .now) (s .args .at) (s .args .from .now) (s .args .into .now) (a .convert-all .ensures ∙ ap (map (comb (r .load-rows .result))) (y .copy .ensures) ∙ map-loaded (s .args .sheet .now) (s .args .at) (r .load-rows .ensures) (s .args .from .now))
     (list-values (s .args .sheet .now) (s .args .from .now) (length (s .args .into .now)) k (q .if2 .left) (w .if3 .left) ∙ v .0)
 
 pub convert-list-spec : {M : Type 1} → statement M
@@ -143,6 +153,7 @@ convert-list-spec =
     first-too-large-requires
     returns-4
     load-rows-requires
+    copy-requires
     convert-all-requires
     same-length
     returns-5)
