@@ -1,0 +1,8 @@
+-- The search of a range: definitions in `Search` and `Answers`, laws in the rest.
+pub mod Search
+pub mod Answers
+pub mod Leaders
+pub mod Joined
+pub mod Ranges
+pub mod Whole
+pub mod Orders
