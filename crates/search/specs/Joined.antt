@@ -1,4 +1,10 @@
--- Laws of joining: nothing joined on either side changes nothing, joining associates, counts add.
+-- Laws of joining: the order of complexities and elements; which of two found records is kept; nothing joined on either side changes
+-- nothing; joining associates; counts add.
+--
+--   Precedes c e d g   what `precedes` tests
+--   before y x         the same of two found records
+--   Answered w         w is no refusal
+--
 -- Assumes nothing.
 use mathlib.Core.Path.{_≡_, refl, sym, ap, _∙_}
 use mathlib.Core.Logic.{_⊎_, inl, inr, _↔_, ⊎-elim}
@@ -151,6 +157,20 @@ joined-assoc x Nothing (Found z) = refl
 joined-assoc (Refused k) (Found y) (Found z) = refl
 joined-assoc Nothing (Found y) (Found z) = refl
 joined-assoc (Found x) (Found y) (Found z) = ap Found (better-assoc x y z)
+
+-- the one of fewer ones; the left one on a tie, where its element is the smaller, as it is in adjoining ranges
+pub joined-left : (x y : Best) → x .complexity ≤ y .complexity → x .element ≤ y .element → joined (Found x) (Found y) ≡ Found (withCount x (x .count + y .count))
+unfolding joined
+joined-left x y h l =
+    ap Found
+    (better-left x y (not-true-false (before y x) (λ p. ⊎-elim
+    (λ (u : y .complexity < x .complexity). omega arith)
+    (λ (u : (y .complexity ≡ x .complexity) × (y .element < x .element)). omega (arith, u .1))
+    (precedes-means (y .complexity) (y .element) (x .complexity) (x .element) .0 p))))
+
+pub joined-right : (x y : Best) → y .complexity < x .complexity → joined (Found x) (Found y) ≡ Found (withCount y (x .count + y .count))
+unfolding joined
+joined-right x y h = ap Found (better-right x y (precedes-means (y .complexity) (y .element) (x .complexity) (x .element) .1 (inl h)))
 
 -- ---- counts
 

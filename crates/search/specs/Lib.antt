@@ -6,3 +6,4 @@ pub mod Joined
 pub mod Ranges
 pub mod Whole
 pub mod Orders
+pub mod Searched

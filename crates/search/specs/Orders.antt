@@ -1,22 +1,17 @@
--- Laws of the search's order: how a path through its conditions gives the answer with its numbers; what it answers for an accepted f;
--- how the answers over two adjoining ranges, refused or not, give that over their union.
+-- Laws of the search's order: how a path through its conditions gives the first that applies, and how that gives the answer with its
+-- numbers. What the call answers for an accepted f and over adjoining ranges: `Searched`.
 -- Assumes nothing.
-use mathlib.Core.Path.{_≡_, refl, ap, _∙_}
-use mathlib.Core.Logic.{⊎-elim}
+use mathlib.Core.Path.{_≡_, refl, _∙_}
 use mathlib.Core.Bool.{true, false}
 use mathlib.Core.List.{[], _∷_}
-use Prim.Native.Nat.{ℕ, suc, _^_, _≤_, _<_}
-use native.Mathlib.Omega.{arith}
-use borrow.Author.Tests.{lt-ltb, le-ltb, le-leb, lt-leb}
+use Prim.Native.Nat.{ℕ, _≤_, _<_}
+use borrow.Author.Tests.{lt-ltb, le-ltb}
 use Rattle.gf2.specs.Poly.{degree}
-use Rattle.gf2.specs.Numbers.{order}
-use Rattle.gf2.specs.Bounded.{bool-cases, or-right}
-use Rattle.field.specs.Accepted.{degreeOutside, Accepted}
-use Rattle.field.specs.Refusals.{Verdict, clear, refuse, firstOf, tooLarge, degreeRule, elementRule, divisorRule, returnRule, fieldOrder}
-use Rattle.field.specs.Orders.{first-applies, first-passes, first-none, any-first, any-next}
-use Rattle.search.specs.Search.{joined, ranged}
-use Rattle.search.specs.Answers.{rangeRule, searchOrder, searchOf, searchAnswer, caseReport, reportOf}
-use Rattle.search.specs.Ranges.{ranged-cut}
+use Rattle.gf2.specs.Bounded.{or-right}
+use Rattle.field.specs.Accepted.{degreeOutside}
+use Rattle.field.specs.Refusals.{Verdict, clear, refuse, firstOf, tooLarge, degreeRule, elementRule, fieldOrder}
+use Rattle.field.specs.Orders.{first-applies, first-passes, any-first, any-next}
+use Rattle.search.specs.Answers.{rangeRule, searchOrder, searchOf, caseReport, reportOf}
 use Rattle.search.specs.declared.answer.Search.{Search}
 use Rattle.search.specs.declared.answer.Search.the-variants.{Refused}
 
@@ -58,56 +53,3 @@ module _ (f first last : ℕ) where
 
       pub search-past : first ≤ last → firstOf (searchOrder f first last) ≡ firstOf (fieldOrder f)
       search-past l = ends ∙ first-passes (rangeRule first last) _ (le-ltb last first l)
-
--- ---- the call
-
-not-large : (n a : ℕ) → a < 2 ^ n → tooLarge n a ≡ false
-unfolding tooLarge
-not-large n a h = lt-leb (2 ^ n) a h
-
-large : (n a : ℕ) → 2 ^ n ≤ a → tooLarge n a ≡ true
-unfolding tooLarge
-large n a h = le-leb (2 ^ n) a h
-
--- past conditions 1, 4 and 12
-answer-past : (f first last : ℕ) → degreeOutside f ≡ false → first ≤ last → last < 2 ^ degree f
-    → searchAnswer f first last ≡ searchOf (firstOf (fieldOrder f)) (ranged f (degree f) first last)
-unfolding searchAnswer
-answer-past f first last inside h l =
-    ap (λ (v : Verdict). searchOf v (ranged f (degree f) first last))
-    (search-past f first last inside (not-large (degree f) first (omega arith)) (not-large (degree f) last l) h)
-
-pub accepted-answer : (f : ℕ) → Accepted f → (first last : ℕ) → first ≤ last → last < 2 ^ degree f
-    → searchAnswer f first last ≡ ranged f (degree f) first last
-unfolding searchOf
-accepted-answer f s first last h l =
-    let clears : firstOf (fieldOrder f) ≡ clear =
-    first-passes (divisorRule f) (returnRule f ∷ []) (s .undivided) ∙ first-passes (returnRule f) [] (s .returns) ∙ first-none in
-    answer-past f first last (s .in-range) h l ∙ rw clears
-
-answer-refused : (f first last k : ℕ) → firstOf (searchOrder f first last) ≡ refuse k 0 → searchAnswer f first last ≡ Refused k
-unfolding searchAnswer searchOf
-answer-refused f first last k e = rw e
-
--- the answers of two adjoining ranges, whatever they are, determine the answer of their union
-pub search-joined : (f first mid last : ℕ) → first ≤ mid → mid < last
-    → searchAnswer f first last ≡ joined (searchAnswer f first mid) (searchAnswer f (suc mid) last)
-unfolding joined searchOf
-search-joined f first mid last h l =
-    ⊎-elim
-    (λ (o : degreeOutside f ≡ true).
-    rw (answer-refused f first last 1 (search-outside f first last o), answer-refused f (suc mid) last 1 (search-outside f (suc mid) last o)))
-    (λ (i : degreeOutside f ≡ false). ⊎-elim
-    (λ (u : last < 2 ^ degree f).
-    rw (answer-past f first last i (omega arith) u, answer-past f first mid i h (omega arith), answer-past f (suc mid) last i l u)
-    (inside (firstOf (fieldOrder f))))
-    (λ (u : 2 ^ degree f ≤ last).
-    let t : tooLarge (degree f) last ≡ true = large (degree f) last u in
-    rw (answer-refused f first last 4 (search-last f first last i t), answer-refused f (suc mid) last 4 (search-last f (suc mid) last i t)))
-    (order last (2 ^ degree f)))
-    (bool-cases (degreeOutside f))
-  where
-    inside : (v : Verdict)
-        → searchOf v (ranged f (degree f) first last) ≡ joined (searchOf v (ranged f (degree f) first mid)) (searchOf v (ranged f (degree f) (suc mid) last))
-    inside clear = ranged-cut f (degree f) first mid last h l
-    inside (refuse k p) = refl

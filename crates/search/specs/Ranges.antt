@@ -1,22 +1,22 @@
 -- The answer over a range: it is cut anywhere, its count is that of all normal leaders there, and what it names.
 --
---   Names f n first stop x     the found record x names the best normal leader of the elements from first to below stop
---   Answers f n first stop w   w is the right answer over them, but for its count
+--   Named f n first last x   the found record x names the best normal leader from first to last
 --
 -- In order: one element; the walk by turns; counts; what is named; ranges from first to last.
 -- Assumes nothing.
 use mathlib.Core.Path.{_≡_, refl, sym, ap, ap₂, _∙_}
-use mathlib.Core.Logic.{_⊎_, inl, inr, ⊎-elim}
+use mathlib.Core.Logic.{_⊎_, inl, inr, ⊎-elim, _↔_}
 use mathlib.Core.Bool.{Bool, true, false, cond}
 use Prim.Native.Nat.{ℕ, zero, suc, _+_, _-_, _≤_, _<_}
-use native.Mathlib.Nat.{le-refl, add-assoc, add-zero, add-suc, add-sub-of-le}
+use native.Mathlib.Nat.{le-refl, le-antisymm, add-assoc, add-zero, add-suc, add-sub-of-le}
 use native.Mathlib.Omega.{arith}
 use Rattle.gf2.specs.Numbers.{order}
 use Rattle.gf2.specs.Bounded.{bool-cases, not-both, not-true-false}
 use Rattle.normal.specs.Normal.{normal}
 use Rattle.normal.specs.Grades.{gradeOf}
+use Rattle.normal.specs.declared.grade.Grade.{Grade}
 use Rattle.search.specs.Search.{leader, normalLeader, complexityAt, precedes, withCount, joined, candidateOf, walked, ranged, countOf, counted}
-use Rattle.search.specs.Joined.{precedes-trans, precedes-self, before, better-right, better-left, joined-nothing, joined-assoc, Answered, nothing, found, joined-answered, joined-count}
+use Rattle.search.specs.Joined.{not-precedes, precedes-trans, precedes-self, before, better-right, better-left, joined-nothing, joined-assoc, Answered, nothing, found, joined-answered, joined-count}
 use Rattle.search.specs.declared.answer.Best.{Best}
 use Rattle.search.specs.declared.answer.Search.{Search}
 use Rattle.search.specs.declared.answer.Search.the-variants.{Nothing, Found}
@@ -114,7 +114,17 @@ counted-le first (suc k) t =
 -- ---- what is named
 
 -- "Found names least complexity, then smallest element"
-pub record Names (f n first stop : ℕ) (x : Best) : Type 0 where
+pub record Named (f n first last : ℕ) (x : Best) : Type 0 where
+  pub from : first ≤ x .element
+  pub upto : x .element ≤ last
+  pub leads : normalLeader f n (x .element) ≡ true
+  pub ones : x .complexity ≡ complexityAt f n (x .element)
+  pub graded : x .grade ≡ gradeOf n (x .complexity)
+  pub fewest : (a : ℕ) → first ≤ a → a ≤ last → normalLeader f n a ≡ true → x .complexity ≤ complexityAt f n a
+  pub smallest : (a : ℕ) → first ≤ a → a ≤ last → normalLeader f n a ≡ true → complexityAt f n a ≡ x .complexity → x .element ≤ a
+
+-- the same from first to below stop, by the order of complexities and elements
+record Names (f n first stop : ℕ) (x : Best) : Type 0 where
   pub from : first ≤ x .element
   pub below : x .element < stop
   pub leads : normalLeader f n (x .element) ≡ true
@@ -124,7 +134,7 @@ pub record Names (f n first stop : ℕ) (x : Best) : Type 0 where
       → precedes (complexityAt f n a) a (x .complexity) (x .element) ≡ false
 
 -- "nothing, when no normal leader lies in the range"
-pub data Answers (f n first stop : ℕ) : Search → Type 0 where
+data Answers (f n first stop : ℕ) : Search → Type 0 where
   none : ((a : ℕ) → first ≤ a → a < stop → normalLeader f n a ≡ true → ⊥) → Answers f n first stop Nothing
   best : (x : Best) → Names f n first stop x → Answers f n first stop (Found x)
 
@@ -204,6 +214,15 @@ walked-answers f n first (suc k) = rw add-suc (next-answers f n first (first + k
 
 -- ---- from first to last
 
+abbrev made : (element complexity : ℕ) → Grade → (count : ℕ) → Best
+made e c g k = record { element = e; complexity = c; grade = g; count = k }
+
+made-same : {e e′ c c′ k k′ : ℕ} {g g′ : Grade} → e ≡ e′ → c ≡ c′ → g ≡ g′ → k ≡ k′ → made e c g k ≡ made e′ c′ g′ k′
+made-same p q r t = rw (p, q, r, t)
+
+best-same : (x y : Best) → x .element ≡ y .element → x .complexity ≡ y .complexity → x .grade ≡ y .grade → x .count ≡ y .count → x ≡ y
+best-same x y = made-same
+
 module _ (f n first last : ℕ) where
   pub ranged-count : countOf (ranged f n first last) ≡ counted first (suc last - first) (normalLeader f n)
   unfolding ranged
@@ -213,32 +232,64 @@ module _ (f n first last : ℕ) where
   unfolding ranged
   ranged-answered = walked-answered f n first (suc last - first)
 
+  -- two records that are named differ in their counts at most
+  named-same : (x y : Best) → Named f n first last x → Named f n first last y → y .count ≡ x .count → x ≡ y
+  named-same x y s t k =
+      let c : x .complexity ≡ y .complexity =
+      le-antisymm (rw (← t .ones) at (s .fewest (y .element) (t .from) (t .upto) (t .leads))) (rw (← s .ones) at (t .fewest (x .element) (s .from) (s .upto) (s .leads))) in
+      let e : x .element ≡ y .element =
+      le-antisymm (s .smallest (y .element) (t .from) (t .upto) (t .leads) (sym (t .ones) ∙ sym c)) (t .smallest (x .element) (s .from) (s .upto) (s .leads) (sym (s .ones) ∙ c)) in
+      let g : x .grade ≡ y .grade = s .graded ∙ ap (gradeOf n) c ∙ sym (t .graded) in
+      best-same x y e c g (sym k)
+
   module _ (h : first ≤ last) where
-    pub ranged-answers : Answers f n first (suc last) (ranged f n first last)
+    ranged-answers : Answers f n first (suc last) (ranged f n first last)
     unfolding ranged
     ranged-answers =
         let l : first ≤ suc last = omega arith in
         rw (add-sub-of-le l) at (walked-answers f n first (suc last - first))
 
-    pub ranged-found : (x : Best) → ranged f n first last ≡ Found x → Names f n first (suc last) x
-    ranged-found x e = go (rw e at ranged-answers)
+    pub ranged-nothing : (ranged f n first last ≡ Nothing) ↔ ((a : ℕ) → first ≤ a → a ≤ last → normalLeader f n a ≡ true → ⊥)
+    ranged-nothing = (λ e. met (rw e at ranged-answers), λ empty. only empty ranged-answers)
       where
-        go : Answers f n first (suc last) (Found x) → Names f n first (suc last) x
-        go (best y s) = s
+        met : Answers f n first (suc last) Nothing → (a : ℕ) → first ≤ a → a ≤ last → normalLeader f n a ≡ true → ⊥
+        met (none empty) a p l t = empty a p (omega arith) t
 
-    pub ranged-nothing : ranged f n first last ≡ Nothing → (a : ℕ) → first ≤ a → a ≤ last → normalLeader f n a ≡ true → ⊥
-    ranged-nothing e a p l t = go (rw e at ranged-answers)
-      where
-        go : Answers f n first (suc last) Nothing → ⊥
-        go (none empty) = empty a p (omega arith) t
+        only : {w : Search} → ((a : ℕ) → first ≤ a → a ≤ last → normalLeader f n a ≡ true → ⊥) → Answers f n first (suc last) w → w ≡ Nothing
+        only empty (none _) = refl
+        only empty (best x s) = absurd (empty (x .element) (s .from) (omega (arith, s .below)) (s .leads))
 
-    -- where no normal leader lies in the range, nothing is the answer
-    pub ranged-none : ((a : ℕ) → first ≤ a → a ≤ last → normalLeader f n a ≡ true → ⊥) → ranged f n first last ≡ Nothing
-    ranged-none empty = go ranged-answers
+    pub ranged-named : (x : Best) → ranged f n first last ≡ Found x → Named f n first last x
+    ranged-named x e = go (rw e at ranged-answers)
       where
-        go : {w : Search} → Answers f n first (suc last) w → w ≡ Nothing
-        go (none _) = refl
-        go (best x s) = absurd (empty (x .element) (s .from) (omega (arith, s .below)) (s .leads))
+        go : Answers f n first (suc last) (Found x) → Named f n first last x
+        go (best y s) =
+            record {
+              from = s .from;
+              upto = omega (arith, s .below);
+              leads = s .leads;
+              ones = s .ones;
+              graded = s .graded;
+              fewest = λ a p l t. ⊎-elim
+                  (λ (u : x .complexity < complexityAt f n a). omega arith)
+                  (λ (u : (x .complexity ≡ complexityAt f n a) × (x .element ≤ a)). omega (arith, u .0))
+                  (not-precedes (complexityAt f n a) a (x .complexity) (x .element) (s .least a p (omega arith) t));
+              smallest = λ a p l t q. ⊎-elim
+                  (λ (u : x .complexity < complexityAt f n a). absurd (omega arith))
+                  (λ (u : (x .complexity ≡ complexityAt f n a) × (x .element ≤ a)). u .1)
+                  (not-precedes (complexityAt f n a) a (x .complexity) (x .element) (s .least a p (omega arith) t));
+            }
+
+    -- "found, with the element, its complexity, its grade and the count of normal leaders in the range"
+    pub ranged-found : (x : Best)
+        → (ranged f n first last ≡ Found x) ↔ (Named f n first last x × (x .count ≡ counted first (suc last - first) (normalLeader f n)))
+    unfolding countOf
+    ranged-found x = (λ e. (ranged-named x e, sym (ap countOf e) ∙ ranged-count), λ s. go (ranged f n first last) refl (s .0) (s .1) ranged-answered)
+      where
+        go : (w : Search) → ranged f n first last ≡ w → Named f n first last x → x .count ≡ counted first (suc last - first) (normalLeader f n) → Answered w
+            → ranged f n first last ≡ Found x
+        go w e s k nothing = absurd (ranged-nothing .0 e (x .element) (s .from) (s .upto) (s .leads))
+        go w e s k (found y) = e ∙ ap Found (named-same y x (ranged-named y e) s (k ∙ sym (ranged-count) ∙ ap countOf e))
 
 -- adjoining ranges
 pub ranged-cut : (f n first mid last : ℕ) → first ≤ mid → mid < last

@@ -1,7 +1,6 @@
--- The search of a whole field: its best is no worse than any normal element, leader or not.
+-- The search of a whole field: its best is no worse than any normal element, leader or not; nothing is found only where there is none.
 -- Assumes nothing.
 use mathlib.Core.Path.{_≡_, ap, _∙_}
-use mathlib.Core.Logic.{_⊎_, inl, inr}
 use mathlib.Core.Bool.{true}
 use Prim.Native.Nat.{ℕ, _-_, _^_, _≤_, _<_}
 use native.Mathlib.Omega.{arith}
@@ -10,8 +9,7 @@ use Rattle.field.specs.Field.{squared}
 use Rattle.normal.specs.Normal.{normal, complexity}
 use Rattle.search.specs.Search.{complexityAt, normalLeader, ranged}
 use Rattle.search.specs.Leaders.{leader-exists, leader-normal}
-use Rattle.search.specs.Joined.{not-precedes}
-use Rattle.search.specs.Ranges.{normal-leader, ranged-found, ranged-nothing}
+use Rattle.search.specs.Ranges.{normal-leader, ranged-named, ranged-nothing}
 use Rattle.search.specs.declared.answer.Best.{Best}
 use Rattle.search.specs.declared.answer.Search.the-variants.{Nothing, Found}
 
@@ -24,16 +22,17 @@ module _ (f n : ℕ) (deg : Degree f n) (big : 2 ≤ n) (returns : squared f n n
       let t = leader-normal f n deg big returns a ha (s .0) (s .1) e in
       (s .0, normal-leader f n (s .0) (s .1 .leads) (t .0), ap complexity (t .1), s .1 .least)
 
-  -- "no normal element has fewer ones", and none with as few is smaller
   pub whole-best : (x : Best) → ranged f n 0 (2 ^ n - 1) ≡ Found x
-      → (x .complexity < complexityAt f n a) ⊎ ((x .complexity ≡ complexityAt f n a) × (x .element ≤ a))
-  whole-best x p = go (not-precedes (complexityAt f n (leading .0)) (leading .0) (x .complexity) (x .element)
-      (ranged-found f n 0 (2 ^ n - 1) (omega arith) x p .least (leading .0) (omega arith) (omega (arith, leading .3)) (leading .1)))
-    where
-      go : (x .complexity < complexityAt f n (leading .0)) ⊎ ((x .complexity ≡ complexityAt f n (leading .0)) × (x .element ≤ leading .0))
-          → (x .complexity < complexityAt f n a) ⊎ ((x .complexity ≡ complexityAt f n a) × (x .element ≤ a))
-      go (inl h) = inl (rw (leading .2) at h)
-      go (inr h) = inr (h .0 ∙ leading .2, omega (arith, h .1, leading .3))
+      → (x .complexity ≤ complexityAt f n a) × (complexityAt f n a ≡ x .complexity → x .element ≤ a)
+  whole-best x p =
+      let s = ranged-named f n 0 (2 ^ n - 1) (omega arith) x p in
+      let d = leading in
+      let u : d .0 ≤ 2 ^ n - 1 = omega (arith, d .3) in (
+        rw (d .2) at (s .fewest (d .0) (omega arith) u (d .1)),
+        λ q. omega (arith, s .smallest (d .0) (omega arith) u (d .1) (d .2 ∙ q), d .3),
+      )
 
   pub whole-nothing : ranged f n 0 (2 ^ n - 1) ≡ Nothing → ⊥
-  whole-nothing p = ranged-nothing f n 0 (2 ^ n - 1) (omega arith) p (leading .0) (omega arith) (omega (arith, leading .3)) (leading .1)
+  whole-nothing p =
+      let d = leading in
+      ranged-nothing f n 0 (2 ^ n - 1) (omega arith) .0 p (d .0) (omega arith) (omega (arith, d .3)) (d .1)
