@@ -27,7 +27,8 @@ use Rattle.search.specs.Search.{leader, normalLeader, complexityAt, withCount, 
 use Rattle.search.specs.Answers.{searchAnswer}
 use Rattle.search.specs.Leaders.{LeaderOf, leader-means, leader-exists, leader-normal}
 use Rattle.search.specs.Joined.{Answered, joined-count, joined-left, joined-right}
-use Rattle.search.specs.Ranges.{Named, ranged-answered, ranged-count, ranged-nothing, ranged-found}
+use Rattle.search.specs.Walks.{ranged-answered, ranged-count}
+use Rattle.search.specs.Named.{Named, ranged-nothing, ranged-found}
 use Rattle.search.specs.Whole.{whole-best, whole-nothing}
 use Rattle.search.specs.Searched.{accepted-answer, search-joined}
 use Rattle.search.specs.declared.answer.Best.{Best}
@@ -56,10 +57,12 @@ module _ (f : ℕ) (accepted : Accepted f) where
   one-leader = leader-exists f (degree f) is-degree two returns
 
   -- that of a normal element is normal and has the same table
-  pub leader-same-table : (a : ℕ) → a < 2 ^ degree f → (l : ℕ) → LeaderOf f (degree f) a l → normal f (degree f) a ≡ true
-      → (normal f (degree f) l ≡ true) × (tableRows f (degree f) l ≡ tableRows f (degree f) a)
-  leader-same-table =
-      leader-normal f (degree f) is-degree two returns
+  pub one-normal-leader : (a : ℕ) → a < 2 ^ degree f → normal f (degree f) a ≡ true
+      → (l : ℕ) × LeaderOf f (degree f) a l × (normal f (degree f) l ≡ true) × (tableRows f (degree f) l ≡ tableRows f (degree f) a)
+  one-normal-leader a element is-normal =
+      let s = one-leader a element in
+      let t = leader-normal f (degree f) is-degree two returns a element (s .0) (s .1) is-normal in
+      (s .0, s .1, t .0, t .1)
 
   -- ---- a range
 

@@ -3,7 +3,8 @@ pub mod Search
 pub mod Answers
 pub mod Leaders
 pub mod Joined
-pub mod Ranges
+pub mod Walks
+pub mod Named
 pub mod Whole
 pub mod Orders
 pub mod Searched

@@ -8,6 +8,7 @@
 --   withCount x k             a found record with another count
 --   better x y                the better of two found records, with the counts of both
 --   joined x y                the answer over two adjoining ranges, from the answers x over the left and y over the right
+--   alone f n a               the found record of the normal leader a
 --   candidateOf f n a         the answer over the single element a
 --   walked f n first k        the answer over the k elements from first on
 --   ranged f n first last     the answer over the elements from first to last
@@ -60,12 +61,12 @@ joined (Refused k) (Found y) = Refused k
 joined Nothing (Found y) = Found y
 joined (Found x) (Found y) = Found (better x y)
 
--- "found, with the element, its complexity, its grade and the count"; the grade follows from degree and complexity
+-- "found, with the element, its complexity, its grade and the count": what is found where a is the one normal leader of a range
+abbrev pub alone : (f n a : ℕ) → Best
+alone f n a = record { element = a; complexity = complexityAt f n a; grade = gradeOf n (complexityAt f n a); count = 1 }
+
 unfoldable pub candidateOf : (f n a : ℕ) → Search
-candidateOf f n a =
-    cond (normalLeader f n a)
-    (Found (record { element = a; complexity = complexityAt f n a; grade = gradeOf n (complexityAt f n a); count = 1 }))
-    Nothing
+candidateOf f n a = cond (normalLeader f n a) (Found (alone f n a)) Nothing
 
 unfoldable pub walked : (f n first k : ℕ) → Search
 walked f n first zero = Nothing

@@ -16,7 +16,7 @@ use Rattle.field.specs.Refusals.{Verdict, clear, refuse, firstOf, tooLarge, div
 use Rattle.field.specs.Orders.{first-passes, first-none}
 use Rattle.search.specs.Search.{joined, ranged}
 use Rattle.search.specs.Answers.{searchOrder, searchOf, searchAnswer}
-use Rattle.search.specs.Ranges.{ranged-cut}
+use Rattle.search.specs.Walks.{ranged-cut}
 use Rattle.search.specs.Orders.{search-outside, search-last, search-past}
 use Rattle.search.specs.declared.answer.Search.the-variants.{Refused}
 

@@ -9,7 +9,8 @@ use Rattle.field.specs.Field.{squared}
 use Rattle.normal.specs.Normal.{normal, complexity}
 use Rattle.search.specs.Search.{complexityAt, normalLeader, ranged}
 use Rattle.search.specs.Leaders.{leader-exists, leader-normal}
-use Rattle.search.specs.Ranges.{normal-leader, ranged-named, ranged-nothing}
+use Rattle.search.specs.Walks.{normal-leader}
+use Rattle.search.specs.Named.{ranged-named, ranged-nothing}
 use Rattle.search.specs.declared.answer.Best.{Best}
 use Rattle.search.specs.declared.answer.Search.the-variants.{Nothing, Found}
 

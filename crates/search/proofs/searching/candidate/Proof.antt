@@ -17,7 +17,7 @@ use Rattle.normal.specs.Grades.{gradeOf}
 use Rattle.normal.specs.declared.basis.Built.{Built}
 use Rattle.normal.specs.declared.grade.Grade.{Grade}
 use Rattle.search.specs.Search.{leader, complexityAt, candidateOf}
-use Rattle.search.specs.Ranges.{candidate-is, candidate-none, normal-leader, no-leader, not-normal}
+use Rattle.search.specs.Walks.{candidate-is, candidate-none, normal-leader, no-leader, not-normal}
 use Rattle.search.specs.declared.answer.Search.the-variants.{Found}
 use Rattle.search.proofs.searching.candidate.Statement.{statement}
 use Rattle.search.proofs.searching.candidate.Tie as tie

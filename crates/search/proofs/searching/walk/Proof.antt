@@ -6,7 +6,7 @@ use native.Mathlib.Omega.{arith}
 use lib.Pow.{pow-mono}
 use Rattle.gf2.specs.Limit.{limit}
 use Rattle.search.specs.Search.{normalLeader, joined, candidateOf, walked, ranged, countOf}
-use Rattle.search.specs.Ranges.{walked-none, walked-next, walked-count, counted-le, candidate-le}
+use Rattle.search.specs.Walks.{walked-none, walked-next, walked-count, counted-le, candidate-le}
 use Rattle.search.specs.declared.answer.Search.{Search}
 use Rattle.search.specs.declared.answer.Search.the-variants.{Nothing}
 use Rattle.search.proofs.searching.walk.Statement.{statement}
@@ -52,7 +52,7 @@ joined-requires c κs =
     let l = i .before in
     let s = l .before in
     counts (s .args .f) (s .args .n) (s .args .first) (l .loop .a) (l .loop .inv .0) (l .loop .found) (c .candidate .result) (l .loop .inv .2) (c .candidate .ensures)
-    (s .args .last) (i .loop-test .taken) (s .pre .2) (s .pre .5)
+    (s .args .last) (omega (arith, i .loop-test .taken)) (s .pre .2) (s .pre .5)
 
 add-a : tie.Need-add-a Inv-loop μ-loop
 add-a c =
@@ -79,7 +79,7 @@ returns : tie.Need-returns Inv-loop μ-loop
 returns c =
     let l = c .before in
     let s = l .before in
-    done (s .args .f) (s .args .n) (s .args .first) (s .args .last) (l .loop .a) (l .loop .found) (l .loop .inv .1) (c .loop-test .left) (l .loop .inv .2)
+    done (s .args .f) (s .args .n) (s .args .first) (s .args .last) (l .loop .a) (l .loop .found) (l .loop .inv .1) (omega (arith, c .loop-test .left)) (l .loop .inv .2)
 
 pub walk-spec : {M : Type 1} → statement M
 walk-spec =

@@ -1,117 +1,26 @@
--- The answer over a range: it is cut anywhere, its count is that of all normal leaders there, and what it names.
+-- What the walk over a range names: the best normal leader there, and nothing exactly where there is none.
 --
---   Named f n first last x   the found record x names the best normal leader from first to last
+--   Named f n first last x     the found record x names the best normal leader from first to last
+--   Names f n first stop x     the same from first to below stop, by the order of complexities and elements
+--   Answers f n first stop w   w is the right answer there, but for its count
 --
--- In order: one element; the walk by turns; counts; what is named; ranges from first to last.
 -- Assumes nothing.
-use mathlib.Core.Path.{_≡_, refl, sym, ap, ap₂, _∙_}
+use mathlib.Core.Path.{_≡_, refl, sym, ap, _∙_}
 use mathlib.Core.Logic.{_⊎_, inl, inr, ⊎-elim, _↔_}
-use mathlib.Core.Bool.{Bool, true, false, cond}
+use mathlib.Core.Bool.{true, false}
 use Prim.Native.Nat.{ℕ, zero, suc, _+_, _-_, _≤_, _<_}
-use native.Mathlib.Nat.{le-refl, le-antisymm, add-assoc, add-zero, add-suc, add-sub-of-le}
+use native.Mathlib.Nat.{le-refl, le-antisymm, add-zero, add-suc, add-sub-of-le}
 use native.Mathlib.Omega.{arith}
 use Rattle.gf2.specs.Numbers.{order}
 use Rattle.gf2.specs.Bounded.{bool-cases, not-both, not-true-false}
-use Rattle.normal.specs.Normal.{normal}
 use Rattle.normal.specs.Grades.{gradeOf}
 use Rattle.normal.specs.declared.grade.Grade.{Grade}
-use Rattle.search.specs.Search.{leader, normalLeader, complexityAt, precedes, withCount, joined, candidateOf, walked, ranged, countOf, counted}
-use Rattle.search.specs.Joined.{not-precedes, precedes-trans, precedes-self, before, better-right, better-left, joined-nothing, joined-assoc, Answered, nothing, found, joined-answered, joined-count}
+use Rattle.search.specs.Search.{normalLeader, alone, complexityAt, precedes, withCount, joined, candidateOf, walked, ranged, countOf, counted}
+use Rattle.search.specs.Joined.{not-precedes, precedes-trans, precedes-self, before, better-right, better-left, joined-nothing, Answered, nothing, found}
 use Rattle.search.specs.declared.answer.Best.{Best}
 use Rattle.search.specs.declared.answer.Search.{Search}
 use Rattle.search.specs.declared.answer.Search.the-variants.{Nothing, Found}
-
--- ---- one element
-
-module _ (f n a : ℕ) where
-  abbrev pub alone : Best
-  alone = record { element = a; complexity = complexityAt f n a; grade = gradeOf n (complexityAt f n a); count = 1 }
-
-  pub candidate-is : normalLeader f n a ≡ true → candidateOf f n a ≡ Found alone
-  unfolding candidateOf
-  candidate-is e = rw e
-
-  pub candidate-none : normalLeader f n a ≡ false → candidateOf f n a ≡ Nothing
-  unfolding candidateOf
-  candidate-none e = rw e
-
-  pub normal-leader : leader f n a ≡ true → normal f n a ≡ true → normalLeader f n a ≡ true
-  unfolding normalLeader
-  normal-leader p q = rw (p, q)
-
-  pub no-leader : leader f n a ≡ false → normalLeader f n a ≡ false
-  unfolding normalLeader
-  no-leader p = rw p
-
-  pub not-normal : leader f n a ≡ true → normal f n a ≡ false → normalLeader f n a ≡ false
-  unfolding normalLeader
-  not-normal p q = rw (p, q)
-
-  candidate-answered : Answered (candidateOf f n a)
-  candidate-answered =
-      ⊎-elim
-      (λ (e : normalLeader f n a ≡ true). rw (candidate-is e) (found alone))
-      (λ (e : normalLeader f n a ≡ false). rw (candidate-none e) nothing)
-      (bool-cases (normalLeader f n a))
-
-  candidate-count : countOf (candidateOf f n a) ≡ cond (normalLeader f n a) 1 0
-  unfolding countOf
-  candidate-count =
-      ⊎-elim
-      (λ (e : normalLeader f n a ≡ true). rw (candidate-is e, e))
-      (λ (e : normalLeader f n a ≡ false). rw (candidate-none e, e))
-      (bool-cases (normalLeader f n a))
-
-  pub candidate-le : countOf (candidateOf f n a) ≤ 1
-  candidate-le =
-      ⊎-elim
-      (λ (e : normalLeader f n a ≡ true). rw (candidate-count, e) (le-refl 1))
-      (λ (e : normalLeader f n a ≡ false). rw (candidate-count, e) (omega arith))
-      (bool-cases (normalLeader f n a))
-
--- ---- the walk
-
-module _ (f n first : ℕ) where
-  pub walked-none : walked f n first 0 ≡ Nothing
-  unfolding walked
-  walked-none = refl
-
-  pub walked-next : (k : ℕ) → walked f n first (suc k) ≡ joined (walked f n first k) (candidateOf f n (first + k))
-  unfolding walked
-  walked-next k = refl
-
-  pub walked-answered : (k : ℕ) → Answered (walked f n first k)
-  unfolding walked
-  walked-answered zero = nothing
-  walked-answered (suc k) = joined-answered (walked-answered k) (candidate-answered f n (first + k))
-
-  -- a walk may be cut anywhere
-  pub walked-cut : (j k : ℕ) → walked f n first (j + k) ≡ joined (walked f n first j) (walked f n (first + j) k)
-  unfolding walked
-  walked-cut j zero = rw add-zero (sym (joined-nothing (walked f n first j)))
-  walked-cut j (suc k) =
-      rw add-suc
-      (ap₂ joined (walked-cut j k) (ap (candidateOf f n) (sym (add-assoc first j k)))
-      ∙ joined-assoc (walked f n first j) (walked f n (first + j) k) (candidateOf f n (first + j + k)))
-
-  -- ---- counts
-
-  pub walked-count : (k : ℕ) → countOf (walked f n first k) ≡ counted first k (normalLeader f n)
-  unfolding walked counted countOf
-  walked-count zero = refl
-  walked-count (suc k) =
-      joined-count (walked-answered k) (candidate-answered f n (first + k)) ∙ ap₂ _+_ (walked-count k) (candidate-count f n (first + k))
-
-pub counted-le : (first k : ℕ) (t : ℕ → Bool) → counted first k t ≤ k
-unfolding counted
-counted-le first zero t = le-refl 0
-counted-le first (suc k) t =
-    ⊎-elim
-    (λ (e : t (first + k) ≡ true). rw e (omega (arith, counted-le first k t)))
-    (λ (e : t (first + k) ≡ false). rw e (omega (arith, counted-le first k t)))
-    (bool-cases (t (first + k)))
-
--- ---- what is named
+use Rattle.search.specs.Walks.{candidate-is, candidate-none, ranged-count, ranged-answered}
 
 -- "Found names least complexity, then smallest element"
 pub record Named (f n first last : ℕ) (x : Best) : Type 0 where
@@ -123,7 +32,6 @@ pub record Named (f n first last : ℕ) (x : Best) : Type 0 where
   pub fewest : (a : ℕ) → first ≤ a → a ≤ last → normalLeader f n a ≡ true → x .complexity ≤ complexityAt f n a
   pub smallest : (a : ℕ) → first ≤ a → a ≤ last → normalLeader f n a ≡ true → complexityAt f n a ≡ x .complexity → x .element ≤ a
 
--- the same from first to below stop, by the order of complexities and elements
 record Names (f n first stop : ℕ) (x : Best) : Type 0 where
   pub from : first ≤ x .element
   pub below : x .element < stop
@@ -162,7 +70,7 @@ module _ (f n first m : ℕ) (h : first ≤ m) where
     abbrev here : Best
     here = alone f n m
 
-    -- it comes before all that were met
+    -- none of those met comes before it
     taken : (k : ℕ) → ((a : ℕ) → first ≤ a → a < m → normalLeader f n a ≡ true → precedes (complexityAt f n a) a (complexityAt f n m) m ≡ false)
         → Names f n first (suc m) (withCount here k)
     taken k all =
@@ -224,14 +132,6 @@ best-same : (x y : Best) → x .element ≡ y .element → x .complexity ≡ y .
 best-same x y = made-same
 
 module _ (f n first last : ℕ) where
-  pub ranged-count : countOf (ranged f n first last) ≡ counted first (suc last - first) (normalLeader f n)
-  unfolding ranged
-  ranged-count = walked-count f n first (suc last - first)
-
-  pub ranged-answered : Answered (ranged f n first last)
-  unfolding ranged
-  ranged-answered = walked-answered f n first (suc last - first)
-
   -- two records that are named differ in their counts at most
   named-same : (x y : Best) → Named f n first last x → Named f n first last y → y .count ≡ x .count → x ≡ y
   named-same x y s t k =
@@ -284,19 +184,9 @@ module _ (f n first last : ℕ) where
     pub ranged-found : (x : Best)
         → (ranged f n first last ≡ Found x) ↔ (Named f n first last x × (x .count ≡ counted first (suc last - first) (normalLeader f n)))
     unfolding countOf
-    ranged-found x = (λ e. (ranged-named x e, sym (ap countOf e) ∙ ranged-count), λ s. go (ranged f n first last) refl (s .0) (s .1) ranged-answered)
+    ranged-found x = (λ e. (ranged-named x e, sym (ap countOf e) ∙ ranged-count f n first last), λ s. go (ranged f n first last) refl (s .0) (s .1) (ranged-answered f n first last))
       where
         go : (w : Search) → ranged f n first last ≡ w → Named f n first last x → x .count ≡ counted first (suc last - first) (normalLeader f n) → Answered w
             → ranged f n first last ≡ Found x
         go w e s k nothing = absurd (ranged-nothing .0 e (x .element) (s .from) (s .upto) (s .leads))
-        go w e s k (found y) = e ∙ ap Found (named-same y x (ranged-named y e) s (k ∙ sym (ranged-count) ∙ ap countOf e))
-
--- adjoining ranges
-pub ranged-cut : (f n first mid last : ℕ) → first ≤ mid → mid < last
-    → ranged f n first last ≡ joined (ranged f n first mid) (ranged f n (suc mid) last)
-unfolding ranged
-ranged-cut f n first mid last h l =
-    let s : suc last - first ≡ (suc mid - first) + (suc last - suc mid) = omega arith in
-    let t : first + (suc mid - first) ≡ suc mid = omega arith in
-    ap (walked f n first) s ∙ walked-cut f n first (suc mid - first) (suc last - suc mid)
-    ∙ ap (λ (m : ℕ). joined (walked f n first (suc mid - first)) (walked f n m (suc last - suc mid))) t
+        go w e s k (found y) = e ∙ ap Found (named-same y x (ranged-named y e) s (k ∙ sym (ranged-count f n first last) ∙ ap countOf e))
