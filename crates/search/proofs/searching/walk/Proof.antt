@@ -1,0 +1,96 @@
+-- `search::searching::walk` meets its contract. The invariant: found is the answer over the elements from first to below a.
+-- The measure is what is left up to last. Assumes nothing.
+use mathlib.Core.Path.{_≡_, sym, ap, ap₂, _∙_}
+use Prim.Native.Nat.{ℕ, suc, _+_, _-_, _^_, _≤_, _<_}
+use native.Mathlib.Omega.{arith}
+use lib.Pow.{pow-mono}
+use Rattle.gf2.specs.Limit.{limit}
+use Rattle.search.specs.Search.{normalLeader, joined, candidateOf, walked, ranged, countOf}
+use Rattle.search.specs.Walks.{walked-none, walked-next, walked-count, counted-le, candidate-le}
+use Rattle.search.specs.declared.answer.Search.{Search}
+use Rattle.search.specs.declared.answer.Search.the-variants.{Nothing}
+use Rattle.search.proofs.searching.walk.Statement.{statement}
+use Rattle.search.proofs.searching.walk.Tie as tie
+
+abbrev Inv-loop : tie.InvT-loop
+Inv-loop spread f n first last found₀ a₀ found a = (first ≤ a) × (a ≤ last + 1) × (found ≡ walked f n first (a - first))
+
+abbrev μ-loop : tie.MeasureT-loop
+μ-loop spread f n first last found₀ a₀ found a = last + 1 - a
+
+start : (f n first : ℕ) → Nothing ≡ walked f n first (first - first)
+start f n first = let z : first - first ≡ 0 = omega arith in rw z (sym (walked-none f n first))
+
+module _ (f n first a : ℕ) (h : first ≤ a) (x y : Search) (ex : x ≡ walked f n first (a - first)) (ey : y ≡ candidateOf f n a) where
+  turn : (z : Search) → z ≡ joined x y → z ≡ walked f n first (a + 1 - first)
+  turn z e =
+      let s : a + 1 - first ≡ suc (a - first) = omega arith in
+      let t : a ≡ first + (a - first) = omega arith in
+      e ∙ ap₂ joined ex (ey ∙ ap (candidateOf f n) t) ∙ sym (walked-next f n first (a - first)) ∙ ap (walked f n first) (sym s)
+
+  -- a count is at most the number of elements walked
+  counts : (last : ℕ) → a ≤ last → n ≤ limit → last < 2 ^ n → countOf x + countOf y < 2 ^ 64
+  counts last l small hl =
+      rw (ex, ey, walked-count f n first (a - first))
+      (omega (arith, counted-le first (a - first) (normalLeader f n), candidate-le f n a, pow-mono small))
+
+done : (f n first last a : ℕ) (x : Search) → a ≤ last + 1 → last < a → x ≡ walked f n first (a - first) → x ≡ ranged f n first last
+unfolding ranged
+done f n first last a x p q e = let s : a - first ≡ suc last - first = omega arith in e ∙ ap (walked f n first) s
+
+loop-holds : tie.Need-loop-holds Inv-loop μ-loop
+loop-holds c = (omega arith, omega (arith, c .pre .4), start (c .args .f) (c .args .n) (c .args .first))
+
+candidate-requires : tie.Need-candidate-requires Inv-loop μ-loop
+candidate-requires c κs =
+    let s = c .before .before in
+    (s .pre .0, s .pre .1, s .pre .2, s .pre .3, omega (arith, s .pre .5, c .loop-test .taken))
+
+joined-requires : tie.Need-joined-requires Inv-loop μ-loop
+joined-requires c κs =
+    let i = c .before in
+    let l = i .before in
+    let s = l .before in
+    counts (s .args .f) (s .args .n) (s .args .first) (l .loop .a) (l .loop .inv .0) (l .loop .found) (c .candidate .result) (l .loop .inv .2) (c .candidate .ensures)
+    (s .args .last) (omega (arith, i .loop-test .taken)) (s .pre .2) (s .pre .5)
+
+add-a : tie.Need-add-a Inv-loop μ-loop
+add-a c =
+    let i = c .before .before in
+    let s = i .before .before in
+    omega (arith, s .pre .5, pow-mono (s .pre .2), i .loop-test .taken)
+
+loop-less : tie.Need-loop-less Inv-loop μ-loop
+loop-less c = omega arith
+
+loop-again : tie.Need-loop-again Inv-loop μ-loop
+loop-again c =
+    let k = c .before in
+    let i = k .before in
+    let l = i .before in
+    let s = l .before in (
+      omega (arith, l .loop .inv .0),
+      omega (arith, i .loop-test .taken),
+      turn (s .args .f) (s .args .n) (s .args .first) (l .loop .a) (l .loop .inv .0) (l .loop .found) (k .candidate .result) (l .loop .inv .2) (k .candidate .ensures)
+          (c .joined .result) (c .joined .ensures),
+    )
+
+returns : tie.Need-returns Inv-loop μ-loop
+returns c =
+    let l = c .before in
+    let s = l .before in
+    done (s .args .f) (s .args .n) (s .args .first) (s .args .last) (l .loop .a) (l .loop .found) (l .loop .inv .1) (omega (arith, c .loop-test .left)) (l .loop .inv .2)
+
+pub walk-spec : {M : Type 1} → statement M
+walk-spec =
+    tie.close
+    (tie.spec
+    Inv-loop
+    μ-loop
+    loop-holds
+    candidate-requires
+    joined-requires
+    add-a
+    loop-less
+    loop-again
+    returns)

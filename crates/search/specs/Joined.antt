@@ -1,0 +1,192 @@
+-- Laws of joining: the order of complexities and elements; which of two found records is kept; nothing joined on either side changes
+-- nothing; joining associates; counts add.
+--
+--   Precedes c e d g   what `precedes` tests
+--   before y x         the same of two found records
+--   Answered w         w is no refusal
+--
+-- Assumes nothing.
+use mathlib.Core.Path.{_≡_, refl, sym, ap, _∙_}
+use mathlib.Core.Logic.{_⊎_, inl, inr, _↔_, ⊎-elim}
+use mathlib.Core.Bool.{Bool, true, false, _&&_}
+use Prim.Native.Nat.{ℕ, _+_, _≤_, _<_}
+use native.Mathlib.Nat.{add-assoc, add-zero, zero-add}
+use native.Mathlib.Omega.{arith}
+use lib.Dec.{ltb, eqb}
+use borrow.Author.Tests.{lt-ltb, eq-eqb, ltb-true, eqb-true}
+use Rattle.gf2.specs.Numbers.{order}
+use Rattle.gf2.specs.Bounded.{bool-cases, not-both, or-cases, or-right, not-true-false}
+use Rattle.rows.specs.Decision.{and-both, and-parts}
+use Rattle.search.specs.Search.{precedes, withCount, better, joined, countOf}
+use Rattle.search.specs.declared.answer.Best.{Best}
+use Rattle.search.specs.declared.answer.Search.{Search}
+use Rattle.search.specs.declared.answer.Search.the-variants.{Refused, Nothing, Found}
+
+-- ---- the order of complexities and elements
+
+-- fewer ones, or as many and the smaller element
+abbrev pub Precedes : (c e d g : ℕ) → Type 0
+Precedes c e d g = (c < d) ⊎ ((c ≡ d) × (e < g))
+
+pub precedes-means : (c e d g : ℕ) → (precedes c e d g ≡ true) ↔ Precedes c e d g
+unfolding precedes
+precedes-means c e d g = (
+  λ p. ⊎-elim
+      (λ (h : ltb c d ≡ true). inl (ltb-true c d h))
+      (λ (h : (eqb c d && ltb e g) ≡ true). let b = and-parts (eqb c d) (ltb e g) h in inr (eqb-true c d (b .0), ltb-true e g (b .1)))
+      (or-cases (ltb c d) (eqb c d && ltb e g) p),
+  λ p. ⊎-elim
+      (λ (h : c < d). rw (lt-ltb c d h))
+      (λ (h : (c ≡ d) × (e < g)). or-right (ltb c d) (eqb c d && ltb e g) (and-both (eqb c d) (ltb e g) (eq-eqb c d (h .0)) (lt-ltb e g (h .1))))
+      p,
+)
+
+-- not before: more ones, or as many and no smaller element
+pub not-precedes : (c e d g : ℕ) → precedes c e d g ≡ false → (d < c) ⊎ ((d ≡ c) × (g ≤ e))
+not-precedes c e d g p = go (order d c) (order c d) (order e g)
+  where
+    go : (d < c) ⊎ (c ≤ d) → (c < d) ⊎ (d ≤ c) → (e < g) ⊎ (g ≤ e) → (d < c) ⊎ ((d ≡ c) × (g ≤ e))
+    go (inl h) v w = inl h
+    go (inr h) (inl l) w = absurd (not-both (precedes c e d g) (precedes-means c e d g .1 (inl l)) p)
+    go (inr h) (inr l) (inl m) = absurd (not-both (precedes c e d g) (precedes-means c e d g .1 (inr (omega arith, m))) p)
+    go (inr h) (inr l) (inr m) = inr (omega arith, m)
+
+pub precedes-trans : (c e d g b h : ℕ) → precedes c e d g ≡ true → precedes d g b h ≡ true → precedes c e b h ≡ true
+precedes-trans c e d g b h p q =
+    precedes-means c e b h .1 (go (precedes-means c e d g .0 p) (precedes-means d g b h .0 q))
+  where
+    go : Precedes c e d g → Precedes d g b h → Precedes c e b h
+    go (inl u) (inl v) = inl (omega arith)
+    go (inl u) (inr v) = inl (omega (arith, v .0))
+    go (inr u) (inl v) = inl (omega (arith, u .0))
+    go (inr u) (inr v) = inr (u .0 ∙ v .0, omega (arith, u .1, v .1))
+
+pub precedes-neither : (c e d g b h : ℕ) → precedes c e d g ≡ false → precedes d g b h ≡ false → precedes c e b h ≡ false
+precedes-neither c e d g b h p q =
+    not-true-false (precedes c e b h) (λ r. go (not-precedes c e d g p) (not-precedes d g b h q) (precedes-means c e b h .0 r))
+  where
+    go : (d < c) ⊎ ((d ≡ c) × (g ≤ e)) → (b < d) ⊎ ((b ≡ d) × (h ≤ g)) → Precedes c e b h → ⊥
+    go (inl u) (inl v) (inl w) = omega arith
+    go (inl u) (inl v) (inr w) = omega (arith, w .0)
+    go (inl u) (inr v) (inl w) = omega (arith, v .0)
+    go (inl u) (inr v) (inr w) = omega (arith, v .0, w .0)
+    go (inr u) (inl v) (inl w) = omega (arith, u .0)
+    go (inr u) (inl v) (inr w) = omega (arith, u .0, w .0)
+    go (inr u) (inr v) (inl w) = omega (arith, u .0, v .0)
+    go (inr u) (inr v) (inr w) = omega (arith, u .1, v .1, w .1)
+
+pub precedes-self : (c e : ℕ) → precedes c e c e ≡ false
+precedes-self c e = not-true-false (precedes c e c e) (λ p. go (precedes-means c e c e .0 p))
+  where
+    go : Precedes c e c e → ⊥
+    go (inl h) = omega arith
+    go (inr h) = omega (arith, h .1)
+
+-- ---- found records
+
+abbrev pub before : (y x : Best) → Bool
+before y x = precedes (y .complexity) (y .element) (x .complexity) (x .element)
+
+pub better-right : (x y : Best) → before y x ≡ true → better x y ≡ withCount y (x .count + y .count)
+unfolding better
+better-right x y e = rw e
+
+pub better-left : (x y : Best) → before y x ≡ false → better x y ≡ withCount x (x .count + y .count)
+unfolding better
+better-left x y e = rw e
+
+better-count : (x y : Best) → better x y .count ≡ x .count + y .count
+better-count x y =
+    ⊎-elim
+    (λ (e : before y x ≡ true). ap (λ (b : Best). b .count) (better-right x y e))
+    (λ (e : before y x ≡ false). ap (λ (b : Best). b .count) (better-left x y e))
+    (bool-cases (before y x))
+
+better-assoc : (x y z : Best) → better (better x y) z ≡ better x (better y z)
+better-assoc x y z = go (bool-cases (before y x)) (bool-cases (before z y)) (bool-cases (before z x))
+  where
+    Case : (b : Bool) → Type 0
+    Case b = (b ≡ true) ⊎ (b ≡ false)
+
+    xy : ℕ
+    xy = x .count + y .count
+
+    yz : ℕ
+    yz = y .count + z .count
+
+    same : (b : Best) → withCount b (x .count + y .count + z .count) ≡ withCount b (x .count + (y .count + z .count))
+    same b = ap (withCount b) (add-assoc (x .count) (y .count) (z .count))
+
+    go : Case (before y x) → Case (before z y) → Case (before z x) → better (better x y) z ≡ better x (better y z)
+    go (inl p) (inl q) r =
+        let t : before z x ≡ true = precedes-trans (z .complexity) (z .element) (y .complexity) (y .element) (x .complexity) (x .element) q p in
+        ap (λ (b : Best). better b z) (better-right x y p) ∙ better-right (withCount y xy) z q ∙ same z
+        ∙ sym (ap (better x) (better-right y z q) ∙ better-right x (withCount z yz) t)
+    go (inl p) (inr q) r =
+        ap (λ (b : Best). better b z) (better-right x y p) ∙ better-left (withCount y xy) z q ∙ same y
+        ∙ sym (ap (better x) (better-left y z q) ∙ better-right x (withCount y yz) p)
+    go (inr p) (inl q) (inl r) =
+        ap (λ (b : Best). better b z) (better-left x y p) ∙ better-right (withCount x xy) z r ∙ same z
+        ∙ sym (ap (better x) (better-right y z q) ∙ better-right x (withCount z yz) r)
+    go (inr p) (inl q) (inr r) =
+        ap (λ (b : Best). better b z) (better-left x y p) ∙ better-left (withCount x xy) z r ∙ same x
+        ∙ sym (ap (better x) (better-right y z q) ∙ better-left x (withCount z yz) r)
+    go (inr p) (inr q) r =
+        let t : before z x ≡ false = precedes-neither (z .complexity) (z .element) (y .complexity) (y .element) (x .complexity) (x .element) q p in
+        ap (λ (b : Best). better b z) (better-left x y p) ∙ better-left (withCount x xy) z t ∙ same x
+        ∙ sym (ap (better x) (better-left y z q) ∙ better-left x (withCount y yz) p)
+
+-- ---- answers
+
+pub joined-nothing : (x : Search) → joined x Nothing ≡ x
+unfolding joined
+joined-nothing x = refl
+
+pub nothing-joined : (x : Search) → joined Nothing x ≡ x
+unfolding joined
+nothing-joined (Refused k) = refl
+nothing-joined Nothing = refl
+nothing-joined (Found x) = refl
+
+pub joined-assoc : (x y z : Search) → joined (joined x y) z ≡ joined x (joined y z)
+unfolding joined
+joined-assoc x y (Refused k) = refl
+joined-assoc x y Nothing = refl
+joined-assoc x (Refused k) (Found z) = refl
+joined-assoc x Nothing (Found z) = refl
+joined-assoc (Refused k) (Found y) (Found z) = refl
+joined-assoc Nothing (Found y) (Found z) = refl
+joined-assoc (Found x) (Found y) (Found z) = ap Found (better-assoc x y z)
+
+-- the one of fewer ones; the left one on a tie, where its element is the smaller, as it is in adjoining ranges
+pub joined-left : (x y : Best) → x .complexity ≤ y .complexity → x .element ≤ y .element → joined (Found x) (Found y) ≡ Found (withCount x (x .count + y .count))
+unfolding joined
+joined-left x y h l =
+    ap Found
+    (better-left x y (not-true-false (before y x) (λ p. ⊎-elim
+    (λ (u : y .complexity < x .complexity). omega arith)
+    (λ (u : (y .complexity ≡ x .complexity) × (y .element < x .element)). omega (arith, u .1))
+    (precedes-means (y .complexity) (y .element) (x .complexity) (x .element) .0 p))))
+
+pub joined-right : (x y : Best) → y .complexity < x .complexity → joined (Found x) (Found y) ≡ Found (withCount y (x .count + y .count))
+unfolding joined
+joined-right x y h = ap Found (better-right x y (precedes-means (y .complexity) (y .element) (x .complexity) (x .element) .1 (inl h)))
+
+-- ---- counts
+
+-- an answer that is no refusal
+pub data Answered : Search → Type 0 where
+  nothing : Answered Nothing
+  found : (x : Best) → Answered (Found x)
+
+pub joined-answered : {x y : Search} → Answered x → Answered y → Answered (joined x y)
+unfolding joined
+joined-answered p nothing = p
+joined-answered nothing (found y) = found y
+joined-answered (found x) (found y) = found (better x y)
+
+pub joined-count : {x y : Search} → Answered x → Answered y → countOf (joined x y) ≡ countOf x + countOf y
+unfolding joined countOf
+joined-count {x} p nothing = sym (add-zero (countOf x))
+joined-count nothing (found y) = sym (zero-add (y .count))
+joined-count (found x) (found y) = better-count x y

@@ -1,0 +1,10 @@
+-- The search of a range: definitions in `Search` and `Answers`, laws in the rest.
+pub mod Search
+pub mod Answers
+pub mod Leaders
+pub mod Joined
+pub mod Walks
+pub mod Named
+pub mod Whole
+pub mod Orders
+pub mod Searched

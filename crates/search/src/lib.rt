@@ -1,0 +1,8 @@
+// The search of a range for the normal basis of least complexity (document 01, "Search").
+mod answer;
+mod leader;
+mod searching;
+
+pub use answer::Best;
+pub use answer::Search;
+pub use searching::search;
