@@ -1,0 +1,79 @@
+-- `vectors::print_complexities` meets its contract. The measure is the number of degrees left. Assumes nothing.
+use Prim.Native.Nat.{ℕ, _-_, _*_, _%_, _^_, _≤_}
+use native.Mathlib.Omega.{arith}
+use lib.Pow.{pow-mono, pow-pos}
+use Rattle.vectors.proofs.print_complexities.Statement.{statement}
+use Rattle.vectors.proofs.print_complexities.Tie as tie
+
+abbrev Inv-loop : tie.InvT-loop
+Inv-loop n₀ n = (2 ≤ n) × (n ≤ 17)
+
+abbrev μ-loop : tie.MeasureT-loop
+μ-loop n₀ n = 17 - n
+
+-- 2 ^ n is kept whole in 64 bits, and is not zero
+shifted : (n : ℕ) → n ≤ 16 → 1 ≤ 1 * 2 ^ n % 2 ^ 64
+shifted n h = omega (arith, pow-mono h, pow-pos n)
+
+loop-holds : tie.Need-loop-holds Inv-loop μ-loop
+loop-holds c = omega arith
+
+print-requires : tie.Need-print-requires Inv-loop μ-loop
+print-requires c κs = search
+
+sub-least-complexity : tie.Need-sub-least-complexity Inv-loop μ-loop
+sub-least-complexity c = omega arith
+
+mul-least-complexity : tie.Need-mul-least-complexity Inv-loop μ-loop
+mul-least-complexity c = omega arith
+
+array-read-least-complexity : tie.Need-array-read-least-complexity Inv-loop μ-loop
+array-read-least-complexity c = omega arith
+
+shl-least-complexity : tie.Need-shl-least-complexity Inv-loop μ-loop
+shl-least-complexity c = omega arith
+
+sub-least-complexity-2 : tie.Need-sub-least-complexity-2 Inv-loop μ-loop
+sub-least-complexity-2 c = shifted _ (omega arith)
+
+least-complexity-requires : tie.Need-least-complexity-requires Inv-loop μ-loop
+least-complexity-requires c κs = search
+
+print-after-space-requires : tie.Need-print-after-space-requires Inv-loop μ-loop
+print-after-space-requires c κs = search
+
+end-line-requires : tie.Need-end-line-requires Inv-loop μ-loop
+end-line-requires c κs = search
+
+add-n : tie.Need-add-n Inv-loop μ-loop
+add-n c = omega arith
+
+loop-less : tie.Need-loop-less Inv-loop μ-loop
+loop-less c = omega arith
+
+loop-again : tie.Need-loop-again Inv-loop μ-loop
+loop-again c = omega arith
+
+returns : tie.Need-returns Inv-loop μ-loop
+returns c = search
+
+pub print-complexities-spec : {M : Type 1} → statement M
+print-complexities-spec =
+    tie.close
+    (tie.spec
+    Inv-loop
+    μ-loop
+    loop-holds
+    print-requires
+    sub-least-complexity
+    mul-least-complexity
+    array-read-least-complexity
+    shl-least-complexity
+    sub-least-complexity-2
+    least-complexity-requires
+    print-after-space-requires
+    end-line-requires
+    add-n
+    loop-less
+    loop-again
+    returns)
