@@ -10,7 +10,7 @@ use native.Mathlib.Omega.{arith}
 use lib.ListN.{length}
 use Rattle.gf2.specs.Numbers.{order, pow-next}
 use Rattle.gf2.specs.Poly.{Degree}
-use Rattle.field.specs.Refusals.{Rule, clear, firstOf, tooLarge}
+use Rattle.field.specs.Refusals.{clear, firstOf, tooLarge}
 use Rattle.field.specs.Orders.{first-clear, not-too-large, or-false}
 use Rattle.rows.specs.Rows.{Matrix}
 use Rattle.normal.specs.Coordinates.{listed-at, listed-length, rows-matrix}
