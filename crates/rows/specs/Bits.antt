@@ -3,8 +3,7 @@
 --   bitOf a k    bit k of a, 0 or 1
 --   a ∩ b        the bits that both have
 --
--- In order: bits of a sum; digits of what is shared; sharing with a sum, with a power of two, with all n bits; bounds; the
--- mask that picks a row.
+-- In order: bits of a sum; digits of what is shared; sharing with a sum, with a power of two, with all n bits; bounds.
 -- Assumes nothing.
 use mathlib.Core.Path.{_≡_, refl, sym, ap, ap₂, _∙_}
 use mathlib.Core.Logic.{⊎-elim}
@@ -168,20 +167,3 @@ width-le a w m l h =
 pub apart-bit : (a u c : ℕ) → a ∩ u ≡ 0 → bitOf a c ≡ 1 → bitOf u c ≡ 0
 apart-bit a u c e h =
     sym (one-mul (bitOf u c)) ∙ ap (λ (x : ℕ). x * bitOf u c) (sym h) ∙ sym (bitOf-∩ a u c) ∙ ap (λ (x : ℕ). bitOf x c) e ∙ bitOf-zero c
-
--- ---- the mask 0 - bit, in words of w bits, picks a row or nothing
-
-pub mask-row : (w mask bit row : ℕ) → bit < 2 → mask < 2 ^ w → row < 2 ^ w → (mask + bit) % 2 ^ w ≡ 0 → mask ∩ row ≡ bit * row
-mask-row w mask bit row hb hm hr e =
-    ⊎-elim
-    (λ (z : bit ≡ 0).
-    let none : mask ≡ 0 = sym (mod-eq-of-lt hm) ∙ ap (λ (x : ℕ). x % 2 ^ w) (omega arith) ∙ e in
-    rw (none, z, zero-mul) (zero-∩ row))
-    (λ (z : bit ≡ 1).
-    let all : mask ≡ 2 ^ w - 1 =
-    ⊎-elim
-    (λ (l : mask + bit < 2 ^ w). absurd (omega (arith, sym (mod-eq-of-lt l) ∙ e)))
-    (λ (l : 2 ^ w ≤ mask + bit). omega arith)
-    (order (mask + bit) (2 ^ w)) in
-    rw (all, z, one-mul) (∩-comm (2 ^ w - 1) row ∙ ∩-all w row hr))
-    (bitCases bit hb)

@@ -43,15 +43,6 @@ module _ (n : ℕ) (values : List ℕ) (i : ℕ) where
   unfolding firstLarge
   large-none h = rw (drop-of-length-le values {i = i} h)
 
-firstLarge-le : (n i : ℕ) (values : List ℕ) → i ≤ firstLarge n i values
-unfolding firstLarge
-firstLarge-le n i [] = omega arith
-firstLarge-le n i (v ∷ vs) = go (tooLarge n v) refl (firstLarge-le n (i + 1) vs)
-  where
-    go : (b : Bool) → tooLarge n v ≡ b → i + 1 ≤ firstLarge n (i + 1) vs → i ≤ firstLarge n i (v ∷ vs)
-    go true e ih = rw e (omega arith)
-    go false e ih = rw e (omega arith)
-
 -- ---- condition 4 by that index
 
 pub large-verdict : (n i : ℕ) (values : List ℕ) → firstLarge n i values < i + length values → firstOf (valueRules n i values) ≡ refuse 4 (firstLarge n i values)

@@ -1,5 +1,5 @@
 // Runs the numbers of document 01 that are "run and compared" (the file stdout has them):
-//   source document 000's normal basis column, divided by the degree: a line for each degree 2 to 16, with the complexity;
+//   source document 000's normal basis column, divided by the degree: a line for each degree 2 to 20, with the complexity;
 //   the searches at f = 19;
 //   the check of 2^46 + 3, which goes past refusal 1, and of 2^47, which gets it.
 use field::Checked;
@@ -8,7 +8,7 @@ use normal::Grade;
 use search::Search;
 
 // A polynomial that is accepted, for each degree from 2 on.
-const FIELDS: [u64; 15] = [
+const FIELDS: [u64; 19] = [
     7,
     11,
     19,
@@ -24,6 +24,10 @@ const FIELDS: [u64; 15] = [
     16417,
     32771,
     65579,
+    131081,
+    262153,
+    524327,
+    1048585,
 ];
 
 fn print(number: u64) {
@@ -88,7 +92,7 @@ fn check_number(f: u64) -> u64 {
 
 fn print_complexities() {
     let mut n: usize = 2;
-    while n < 17 {
+    while n < 21 {
         print(n as u64);
         print_after_space(least_complexity(FIELDS[n - 2], (1u64 << n) - 1));
         end_line();

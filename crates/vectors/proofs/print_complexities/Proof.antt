@@ -6,13 +6,13 @@ use Rattle.vectors.proofs.print_complexities.Statement.{statement}
 use Rattle.vectors.proofs.print_complexities.Tie as tie
 
 abbrev Inv-loop : tie.InvT-loop
-Inv-loop n₀ n = (2 ≤ n) × (n ≤ 17)
+Inv-loop n₀ n = (2 ≤ n) × (n ≤ 21)
 
 abbrev μ-loop : tie.MeasureT-loop
-μ-loop n₀ n = 17 - n
+μ-loop n₀ n = 21 - n
 
 -- 2 ^ n is kept whole in 64 bits, and is not zero
-shifted : (n : ℕ) → n ≤ 16 → 1 ≤ 1 * 2 ^ n % 2 ^ 64
+shifted : (n : ℕ) → n ≤ 20 → 1 ≤ 1 * 2 ^ n % 2 ^ 64
 shifted n h = omega (arith, pow-mono h, pow-pos n)
 
 loop-holds : tie.Need-loop-holds Inv-loop μ-loop
