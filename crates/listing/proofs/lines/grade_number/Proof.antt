@@ -1,0 +1,31 @@
+-- `listing::lines::grade_number` meets its contract: by the case of the grade.
+-- Assumes nothing.
+use borrow.Author.Needs.{needs}
+use Rattle.normal.specs.Grades.{gradeNumber}
+use Rattle.listing.proofs.lines.grade_number.Statement.{statement}
+use Rattle.listing.proofs.lines.grade_number.Tie as tie
+
+enum-told : tie.Need-enum-told
+enum-told c = search needs
+
+enum-told-2 : tie.Need-enum-told-2
+enum-told-2 c = search needs
+
+enum-told-3 : tie.Need-enum-told-3
+enum-told-3 c = search needs
+
+returns : tie.Need-returns
+unfolding gradeNumber
+returns c = search needs
+
+returns-2 : tie.Need-returns-2
+unfolding gradeNumber
+returns-2 c = search needs
+
+returns-3 : tie.Need-returns-3
+unfolding gradeNumber
+returns-3 c = search needs
+
+pub grade-number-spec : {M : Type 1} → statement M
+grade-number-spec =
+    tie.close (tie.spec enum-told enum-told-2 enum-told-3 returns returns-2 returns-3)

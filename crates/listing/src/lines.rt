@@ -1,0 +1,86 @@
+// The lines of a listing, put into a lent text: a row's, all rows', the last, and that of a refusal.
+ghost use mathlib.Core.Path.{_≡_};
+ghost use Prim.Native.Nat.{_+_, _*_, _≤_};
+ghost use lib.ListN.{length};
+ghost use Rattle.gf2.specs.Limit.{limit};
+ghost use Rattle.normal.specs.Grades.{gradeNumber};
+ghost use Rattle.sheet.specs.Record.{recordSize};
+ghost use Rattle.listing.specs.Text.{rowLine, rowLines, lastLine, refusedLine};
+ghost use Rattle.listing.specs.Putting.{rowRoom, lastRoom, refusedRoom, Put};
+use super::putting::put_bytes;
+use super::putting::put_number;
+use normal::Grade;
+use sheet::CONJUGATE_AT;
+use sheet::INVERSE_AT;
+use sheet::RECORD;
+use sheet::TABLE_AT;
+use sheet::WORD;
+use sheet::number_at;
+
+const SPACE: u8 = 32;
+
+const NEWLINE: u8 = 10;
+
+// Row i of the sheet: its number, conjugate, inverse row and table row.
+fn put_row(text: &mut [u8], at: usize, sheet: &[u8], i: usize) -> usize
+    requires { ⌜ (at + rowRoom ≤ length (now text)) × (recordSize * i + recordSize ≤ length (now sheet)) ⌝ }
+    ensures put { λ r. ⌜ Put (now (text .entry)) at (rowLine (now (sheet .entry)) i) (now (text .exit)) r ⌝ }
+    ensures short { λ r. ⌜ r ≤ at + rowRoom ⌝ }
+{
+    let start = RECORD * i;
+    let conjugate = number_at(sheet, start + CONJUGATE_AT, WORD);
+    let inverse = number_at(sheet, start + INVERSE_AT, WORD);
+    let table = number_at(sheet, start + TABLE_AT, WORD);
+    let second = put_number(text, at, i as u64, SPACE);
+    let third = put_number(text, second, conjugate, SPACE);
+    let fourth = put_number(text, third, inverse, SPACE);
+    put_number(text, fourth, table, NEWLINE)
+}
+
+// The first n rows, at the text's front.
+pub fn put_rows(text: &mut [u8], sheet: &[u8], n: usize) -> usize
+    requires { ⌜ (n ≤ limit) × (rowRoom * n ≤ length (now text)) × (recordSize * n ≤ length (now sheet)) ⌝ }
+    ensures put { λ r. ⌜ Put (now (text .entry)) 0 (rowLines (now (sheet .entry)) n) (now (text .exit)) r ⌝ }
+    ensures short { λ r. ⌜ r ≤ rowRoom * n ⌝ }
+{
+    let mut at: usize = 0;
+    let mut i: usize = 0;
+    while i < n {
+        at = put_row(text, at, sheet, i);
+        i += 1;
+    }
+    at
+}
+
+// Document 01's number of a grade.
+fn grade_number(grade: Grade) -> u64
+    ensures { λ r. ⌜ r ≡ gradeNumber grade ⌝ }
+{
+    match grade {
+        Grade::Zero => 0,
+        Grade::One => 1,
+        Grade::Two => 2,
+    }
+}
+
+// The last line.
+pub fn put_last(text: &mut [u8], at: usize, complexity: u32, grade: Grade) -> usize
+    requires { ⌜ at + lastRoom ≤ length (now text) ⌝ }
+    ensures { λ r. ⌜ Put (now (text .entry)) at (lastLine complexity (gradeNumber grade)) (now (text .exit)) r ⌝ }
+{
+    let number = grade_number(grade);
+    let first = put_bytes(text, at, b"complexity ");
+    let second = put_number(text, first, complexity as u64, SPACE);
+    let third = put_bytes(text, second, b"grade ");
+    put_number(text, third, number, NEWLINE)
+}
+
+// The line of a refusal.
+pub fn put_refused(text: &mut [u8], number: u8, place: usize) -> usize
+    requires { ⌜ refusedRoom ≤ length (now text) ⌝ }
+    ensures { λ r. ⌜ Put (now (text .entry)) 0 (refusedLine number place) (now (text .exit)) r ⌝ }
+{
+    let first = put_bytes(text, 0, b"refused ");
+    let second = put_number(text, first, number as u64, SPACE);
+    put_number(text, second, place as u64, NEWLINE)
+}

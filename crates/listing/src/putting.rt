@@ -1,0 +1,31 @@
+// Bytes and numbers put into a lent text, each after what is there.
+ghost use Prim.Native.Nat.{_+_, _≤_};
+ghost use lib.ListN.{length};
+ghost use Rattle.listing.specs.Text.{numberThen};
+ghost use Rattle.listing.specs.Putting.{numberRoom, Put};
+
+// The bytes, put at a place of the text; the answer is the place after them.
+pub fn put_bytes(text: &mut [u8], at: usize, bytes: &[u8]) -> usize
+    requires { ⌜ at + length (now bytes) ≤ length (now text) ⌝ }
+    ensures { λ r. ⌜ Put (now (text .entry)) at (now (bytes .entry)) (now (text .exit)) r ⌝ }
+{
+    let mut k: usize = 0;
+    while k < bytes.len() {
+        text[at + k] = bytes[k];
+        k += 1;
+    }
+    at + k
+}
+
+// A number in decimal and the mark after it, put at a place of the text.
+pub fn put_number(text: &mut [u8], at: usize, number: u64, mark: u8) -> usize
+    requires { ⌜ at + numberRoom ≤ length (now text) ⌝ }
+    ensures put { λ r. ⌜ Put (now (text .entry)) at (numberThen number mark) (now (text .exit)) r ⌝ }
+    ensures short { λ r. ⌜ r ≤ at + numberRoom ⌝ }
+{
+    let mut digits = [0u8; 20];
+    let count = io::decimal(number, &mut digits);
+    let end = put_bytes(text, at, &digits[..count]);
+    text[end] = mark;
+    end + 1
+}

@@ -1,0 +1,29 @@
+// The public call listing: what the lister prints of a sheet, put into a lent text.
+ghost use mathlib.Core.Path.{_≡_};
+ghost use mathlib.Core.List.{_++_};
+ghost use lib.ListN.{length, drop};
+ghost use Rattle.listing.specs.Text.{listingOf};
+use super::lines::put_last;
+use super::lines::put_refused;
+use super::lines::put_rows;
+use sheet::Issued;
+use sheet::RECORD;
+use sheet::read;
+
+// A text that every listing fits into.
+pub const LISTING_ROOM: usize = 4096;
+
+// The listing of the sheet, at the text's front; the answer is its length. The rest of the text stays as it came.
+pub fn listing(sheet: &[u8], text: &mut [u8; LISTING_ROOM]) -> usize
+    ensures size { λ r. ⌜ r ≡ length (listingOf (now (sheet .entry))) ⌝ }
+    ensures listed { λ r. ⌜ now (text .exit) ≡ listingOf (now (sheet .entry)) ++ drop (length (listingOf (now (sheet .entry)))) (now (text .entry)) ⌝ }
+{
+    match read(sheet) {
+        Issued::Refused(refusal) => put_refused(text, refusal.number, refusal.place),
+        Issued::Done(summary) => {
+            let grade = summary.grade;
+            let at = put_rows(text, sheet, sheet.len() / RECORD);
+            put_last(text, at, summary.complexity, grade)
+        }
+    }
+}
