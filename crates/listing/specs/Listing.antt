@@ -4,7 +4,9 @@ use mathlib.Core.Path.{_≡_, refl, sym, ap, _∙_}
 use mathlib.Core.List.{List, _++_}
 use Prim.Native.Nat.{ℕ}
 use native.Mathlib.Omega.{arith}
-use lib.ListN.{length, drop}
+use lib.ListN.{length, drop, length-append}
+use lib.Seq.{take-append-seam}
+use Rattle.io.specs.Counts.{Counts}
 use Rattle.field.specs.Refusals.{Verdict, clear, refuse, firstOf}
 use Rattle.field.specs.declared.answer.Refusal.{Refusal}
 use Rattle.normal.specs.Grades.{gradeNumber}
@@ -41,14 +43,23 @@ done-sized sheet s e =
 -- ---- the lines that are put are the listing
 
 abbrev pub Listed : (start sheet text : List ℕ) (size : ℕ) → Type 0
-Listed start sheet text size = (size ≡ length (listingOf sheet)) × (text ≡ listingOf sheet ++ drop (length (listingOf sheet)) start)
+Listed start sheet text size =
+    (size ≡ length (listingOf sheet)) × ((text ≡ listingOf sheet ++ drop (length (listingOf sheet)) start) × Counts size text)
+
+-- what stands at the front is counted by its size
+front-counted : (start bytes text : List ℕ) (size : ℕ) → (size ≡ length bytes) × (text ≡ bytes ++ drop (length bytes) start)
+    → (size ≡ length bytes) × ((text ≡ bytes ++ drop (length bytes) start) × Counts size text)
+front-counted start bytes text size l =
+    let rest : List ℕ = drop (length bytes) start in
+    (l .0, (l .1, rw (l .0, l .1) (omega (arith, length-append bytes rest), sym (ap length (take-append-seam bytes rest)))))
 
 pub listed-done : (sheet : List ℕ) (s : Summary) {start b c : List ℕ} {m n : ℕ} → readAnswer sheet ≡ issued.Done s
     → Put start 0 (rowLines sheet (recordCount sheet)) b m → Put b m (lastLine (s .complexity) (gradeNumber (s .grade))) c n → Listed start sheet c n
 unfolding listingOf listingBy
-listed-done sheet s e p q = rw e (put-front (put-then p q))
+listed-done sheet s {start} {b} {c} {m} {n} e p q =
+    rw e (front-counted start (rowLines sheet (recordCount sheet) ++ lastLine (s .complexity) (gradeNumber (s .grade))) c n (put-front (put-then p q)))
 
 pub listed-refused : (sheet : List ℕ) (r : Refusal) {start text : List ℕ} {n : ℕ} → readAnswer sheet ≡ issued.Refused r
     → Put start 0 (refusedLine (r .number) (r .place)) text n → Listed start sheet text n
 unfolding listingOf listingBy
-listed-refused sheet r e p = rw e (put-front p)
+listed-refused sheet r {start} {text} {n} e p = rw e (front-counted start (refusedLine (r .number) (r .place)) text n (put-front p))

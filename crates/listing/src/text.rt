@@ -2,6 +2,7 @@
 ghost use mathlib.Core.Path.{_≡_};
 ghost use mathlib.Core.List.{_++_};
 ghost use lib.ListN.{length, drop};
+ghost use Rattle.io.specs.Counts.{Counts};
 ghost use Rattle.listing.specs.Text.{listingOf};
 use super::lines::put_last;
 use super::lines::put_refused;
@@ -13,10 +14,12 @@ use sheet::read;
 // A text that every listing fits into.
 pub const LISTING_ROOM: usize = 4096;
 
-// The listing of the sheet, at the text's front; the answer is its length. The rest of the text stays as it came.
+// The listing of the sheet, at the text's front; the answer is its length. The rest of the text stays as it came. The clause
+// counted follows from the two before it; a caller that takes the front of the text asks for it.
 pub fn listing(sheet: &[u8], text: &mut [u8; LISTING_ROOM]) -> usize
     ensures size { λ r. ⌜ r ≡ length (listingOf (now (sheet .entry))) ⌝ }
     ensures listed { λ r. ⌜ now (text .exit) ≡ listingOf (now (sheet .entry)) ++ drop (length (listingOf (now (sheet .entry)))) (now (text .entry)) ⌝ }
+    ensures counted { λ r. ⌜ Counts r (now (text .exit)) ⌝ }
 {
     match read(sheet) {
         Issued::Refused(refusal) => put_refused(text, refusal.number, refusal.place),

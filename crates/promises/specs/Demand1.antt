@@ -1,7 +1,7 @@
 -- Uniqueness (document 01, "Strength of each call"): any two results, and any two last states of lent memory, that the promise of a
 -- public call permits are equal. Each theorem speaks of the promise as the checker itself reads it (`Post`), for all arguments.
 --
--- In order: check, multiply, square, trace; build, read; to_polynomial, to_normal, times; list_to_polynomial, list_to_normal; search.
+-- In order: check, multiply, square, trace; build, read; to_polynomial, to_normal, times; list_to_polynomial, list_to_normal; search; listing.
 -- Assumes nothing.
 use mathlib.Core.Path.{_≡_, sym, _∙_}
 use borrow.Fn.Kinds.{Dens, resT, endedOf}
@@ -32,6 +32,8 @@ use Rattle.sheet.proofs.list_to_normal.Reads as list-to-normal
 use Rattle.sheet.proofs.list_to_normal.Kinds as list-to-normal-kinds
 use Rattle.search.proofs.search.Reads as search
 use Rattle.search.proofs.search.Kinds as search-kinds
+use Rattle.listing.proofs.listing.Reads as listing
+use Rattle.listing.proofs.listing.Kinds as listing-kinds
 
 -- ---- the field calls
 
@@ -93,3 +95,9 @@ list-to-normal-determined κs a x y e e′ p q = (p .0 ∙ sym (q .0), p .1 .1 �
 pub search-determined : (κs : Lfts 0) (a : Dens κs search-kinds.ps) (x y : resT search-kinds.r κs .Denot) (e e′ : AtExit (endedOf 0 search-kinds.ps search-kinds.r) κs)
     → search.Post κs a x e → search.Post κs a y e′ → x ≡ y
 search-determined κs a x y e e′ p q = p .0 ∙ sym (q .0)
+
+-- ---- the listing, with the lent text
+
+pub listing-determined : (κs : Lfts 2) (a : Dens κs listing-kinds.ps) (x y : resT listing-kinds.r κs .Denot) (e e′ : AtExit (endedOf 2 listing-kinds.ps listing-kinds.r) κs)
+    → listing.Post κs a x e → listing.Post κs a y e′ → (x ≡ y) × (now (e .1 .0) ≡ now (e′ .1 .0))
+listing-determined κs a x y e e′ p q = (p .0 ∙ sym (q .0), p .1 .0 ∙ sym (q .1 .0))
