@@ -1,19 +1,19 @@
 -- The whole listing: its lines by what reading answers, and its size.
 -- Assumes nothing.
-use mathlib.Core.Path.{_≡_, refl, sym, ap, _∙_}
+use mathlib.Core.Path.{_≡_, sym, ap, _∙_}
 use mathlib.Core.List.{List, _++_}
 use Prim.Native.Nat.{ℕ}
 use native.Mathlib.Omega.{arith}
 use lib.ListN.{length, drop, length-append}
 use lib.Seq.{take-append-seam}
 use Rattle.io.specs.Counts.{Counts}
-use Rattle.field.specs.Refusals.{Verdict, clear, refuse, firstOf}
+use Rattle.field.specs.Refusals.{clear, firstOf}
 use Rattle.field.specs.declared.answer.Refusal.{Refusal}
 use Rattle.normal.specs.Grades.{gradeNumber}
 use Rattle.sheet.specs.Record.{recordCount, conjugateIn, polynomialIn}
 use Rattle.sheet.specs.Orders.{basisOrder, differRules, rebuiltFrom, shapeOrder}
-use Rattle.sheet.specs.Answers.{issuedOf, summaryOf, readAnswer}
-use Rattle.sheet.specs.Verdicts.{andThen, first-append}
+use Rattle.sheet.specs.Answers.{done-clear, summaryOf, readAnswer}
+use Rattle.sheet.specs.Verdicts.{first-append, then-clear}
 use Rattle.sheet.specs.Shape.{Sized}
 use Rattle.sheet.specs.Clear.{clear-shaped}
 use Rattle.sheet.specs.declared.answer.Summary.{Summary}
@@ -23,21 +23,15 @@ use Rattle.listing.specs.Putting.{Put, put-then, put-front}
 
 -- ---- a sheet that reading finds good has 2 to 46 records
 
--- what is issued was clear in its first part
-done-first : (v w : Verdict) (s t : Summary) → issuedOf (andThen v w) s ≡ issued.Done t → v ≡ clear
-unfolding issuedOf andThen
-done-first clear w s t e = refl
-done-first (refuse k p) w s t e = let z : _≡_ {A = ℕ} 0 1 = cc in absurd (omega arith)
-
 pub done-sized : (sheet : List ℕ) (s : Summary) → readAnswer sheet ≡ issued.Done s → Sized sheet
 unfolding readAnswer
 done-sized sheet s e =
     let f : ℕ = polynomialIn sheet in
     let n : ℕ = recordCount sheet in
     let a : ℕ = conjugateIn sheet 0 in
-    clear-shaped sheet
-    (done-first (firstOf (shapeOrder sheet)) (firstOf (basisOrder f n a ++ differRules sheet (rebuiltFrom sheet) 0 n)) (summaryOf f n a) s
-    (ap (λ (v : Verdict). issuedOf v (summaryOf f n a)) (sym (first-append (shapeOrder sheet) (basisOrder f n a ++ differRules sheet (rebuiltFrom sheet) 0 n))) ∙ e))
+    let rest = basisOrder f n a ++ differRules sheet (rebuiltFrom sheet) 0 n in
+    let c : firstOf (shapeOrder sheet ++ rest) ≡ clear = done-clear (firstOf (shapeOrder sheet ++ rest)) (summaryOf f n a) s e in
+    clear-shaped sheet (then-clear (firstOf (shapeOrder sheet)) (firstOf rest) (sym (first-append (shapeOrder sheet) rest) ∙ c) .0)
     .size
 
 -- ---- the lines that are put are the listing

@@ -1,5 +1,4 @@
 // The lines of a listing, put into a lent text: a row's, all rows', the last, and that of a refusal.
-ghost use mathlib.Core.Path.{_≡_};
 ghost use Prim.Native.Nat.{_+_, _*_, _≤_};
 ghost use lib.ListN.{length};
 ghost use Rattle.gf2.specs.Limit.{limit};
@@ -10,6 +9,7 @@ ghost use Rattle.listing.specs.Putting.{rowRoom, lastRoom, refusedRoom, 
 use super::putting::put_bytes;
 use super::putting::put_number;
 use normal::Grade;
+use normal::grade_number;
 use sheet::CONJUGATE_AT;
 use sheet::INVERSE_AT;
 use sheet::RECORD;
@@ -50,17 +50,6 @@ pub fn put_rows(text: &mut [u8], sheet: &[u8], n: usize) -> usize
         i += 1;
     }
     at
-}
-
-// Document 01's number of a grade.
-fn grade_number(grade: Grade) -> u64
-    ensures { λ r. ⌜ r ≡ gradeNumber grade ⌝ }
-{
-    match grade {
-        Grade::Zero => 0,
-        Grade::One => 1,
-        Grade::Two => 2,
-    }
 }
 
 // The last line.

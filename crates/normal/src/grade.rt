@@ -4,7 +4,7 @@ ghost use Prim.Native.Nat.{_≤_, _<_};
 ghost use lib.ListN.{take};
 ghost use Rattle.gf2.specs.Limit.{limit};
 ghost use Rattle.normal.specs.Normal.{complexity};
-ghost use Rattle.normal.specs.Grades.{prime, gradeOf};
+ghost use Rattle.normal.specs.Grades.{prime, gradeOf, gradeNumber};
 use gf2::LIMIT;
 
 // Document 01's grades 0, 1 and 2.
@@ -55,5 +55,16 @@ pub fn grade_of(n: u32, complexity: u32) -> Grade
         Grade::One
     } else {
         Grade::Two
+    }
+}
+
+// Document 01's number of a grade.
+pub fn grade_number(grade: Grade) -> u64
+    ensures { λ r. ⌜ r ≡ gradeNumber grade ⌝ }
+{
+    match grade {
+        Grade::Zero => 0,
+        Grade::One => 1,
+        Grade::Two => 2,
     }
 }

@@ -10,6 +10,7 @@ pub use basis::build_basis;
 pub use conjugates::conjugates_of;
 pub use grade::Grade;
 pub use grade::complexity_of;
+pub use grade::grade_number;
 pub use grade::grade_of;
 pub use product::product_of;
 pub use product::rotated;

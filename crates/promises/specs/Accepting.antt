@@ -24,9 +24,9 @@ use Rattle.sheet.specs.Basis.{basis-clear}
 use Rattle.sheet.specs.Clear.{Shaped, clear-shaped, polynomial-degree}
 use Rattle.sheet.specs.Reading.{read-records}
 use Rattle.sheet.specs.Rebuilding.{sheetBytes-length}
-use Rattle.sheet.specs.Verdicts.{first-append}
+use Rattle.sheet.specs.Verdicts.{first-append, then-clear}
 use Rattle.sheet.specs.Written.{written-count, written-shape, written-polynomial, written-element, written-rebuilt, itself-clear, same-sheets}
-use Rattle.promises.specs.Issuing.{normal-rule, then-clear, accepted-field}
+use Rattle.promises.specs.Issuing.{normal-rule, accepted-field}
 
 -- ---- reading
 

@@ -35,14 +35,14 @@ use Rattle.normal.specs.Products.{tableRows-table}
 use Rattle.normal.specs.Selected.{conjugates-at}
 use Rattle.sheet.specs.Record.{recordSize, recordCount, conjugateAt, inverseAt, conjugateIn, tableIn, polynomialIn, sheetBytes}
 use Rattle.sheet.specs.Orders.{buildOrder, readOrder, listLimit}
-use Rattle.sheet.specs.Answers.{refusedAt, issuedOf, summaryOf, buildAnswer, written, builtBuffer, convertedBy, convertAnswer, normalAnswer, polynomialAnswer, throughTable, timesAnswer, convertedList, readAnswer, listAnswer}
+use Rattle.sheet.specs.Answers.{refusedAt, issuedOf, done-clear, summaryOf, buildAnswer, written, builtBuffer, convertedBy, convertAnswer, normalAnswer, polynomialAnswer, throughTable, timesAnswer, convertedList, readAnswer, listAnswer}
 use Rattle.sheet.specs.Basis.{basis-tied}
 use Rattle.sheet.specs.Clear.{fields-lt}
 use Rattle.sheet.specs.Rebuilding.{sheetBytes-length}
 use Rattle.sheet.specs.Written.{conjugate-is, table-is}
 use Rattle.sheet.specs.declared.answer.Summary.{Summary}
 use Rattle.sheet.specs.declared.answer.Issued.the-variants as issued
-use Rattle.promises.specs.Issuing.{accepted-field, done-clear, done-is, map-at, verdict, issued-normal, deg, two, most, converts, coordinates-lt, element-lt, there-back, back-there, product-lt, product-is, multiplied, times-done, list-clear, list-converted, list-round}
+use Rattle.promises.specs.Issuing.{accepted-field, done-is, map-at, verdict, issued-normal, deg, two, most, converts, coordinates-lt, element-lt, there-back, back-there, product-lt, product-is, multiplied, times-done, list-clear, list-converted, list-round}
 use Rattle.promises.specs.Accepting.{parts, shaped, degree-count, read-accepted, read-written, written-summary, written-reads, built-accepted, built-element, built-room, built-free}
 
 -- ---- the issue of a sheet

@@ -1,7 +1,7 @@
 -- What holds of a sheet that is issued, as the theorems of demand 2 use it: the verdicts of the calls on it are clear, and what they
 -- compute are the conversions and the product of the crate `normal`.
 --
---   small, done-clear, then-clear, ..   steps on verdicts
+--   small, done-is, normal-rule, ..     steps on verdicts
 --   verdict, issued-normal              building past the refusals 1, 4 and 6
 --   converts, to-coordinates, ..        converting on the issued sheet
 --   product-lt, product-is, multiplied  multiplying on it
@@ -39,7 +39,6 @@ use Rattle.sheet.specs.Basis.{basis-clear}
 use Rattle.sheet.specs.Building.{build-basis}
 use Rattle.sheet.specs.Converting.{value-passes}
 use Rattle.sheet.specs.Lists.{list-values, map-length}
-use Rattle.sheet.specs.Verdicts.{andThen}
 use Rattle.sheet.specs.Written.{written-count, conjugates-held, inverse-held, table-held, written-shape}
 use Rattle.sheet.specs.declared.answer.Summary.{Summary}
 use Rattle.sheet.specs.declared.answer.Issued.the-variants as issued
@@ -55,12 +54,6 @@ unfolding numberOf
 accepted-field f acc =
     sym (ap numberOf (first-passes (divisorRule f) (returnRule f ∷ []) (acc .undivided) ∙ first-passes (returnRule f) [] (acc .returns) ∙ first-none))
 
--- a verdict that issues is clear
-pub done-clear : (v : Verdict) (s t : Summary) → issuedOf v s ≡ issued.Done t → v ≡ clear
-unfolding issuedOf
-done-clear clear s t e = refl
-done-clear (refuse k p) s t e = let z : _≡_ {A = ℕ} 0 1 = cc in absurd (omega arith)
-
 pub done-is : (v : Verdict) (s t : Summary) → issuedOf v s ≡ issued.Done t → s ≡ t
 unfolding issuedOf
 done-is clear s t e = cc
@@ -72,11 +65,6 @@ normal-rule f n a e = not-false (normal f n a) (first-clear (normalRule f n a) [
     not-false : (b : Bool) → not b ≡ false → b ≡ true
     not-false true p = refl
     not-false false p = absurd (not-both true refl p)
-
-pub then-clear : (v w : Verdict) → andThen v w ≡ clear → (v ≡ clear) × (w ≡ clear)
-unfolding andThen
-then-clear clear w e = (refl, e)
-then-clear (refuse k p) w e = let z : _≡_ {A = ℕ} 0 1 = cc in absurd (omega arith)
 
 pub values-clear : (n i : ℕ) (values : List ℕ) → ((j : ℕ) → j < length values → getD values j 0 < 2 ^ n) → firstOf (valueRules n i values) ≡ clear
 unfolding valueRules

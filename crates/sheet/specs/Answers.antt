@@ -10,6 +10,7 @@
 use mathlib.Core.Path.{_≡_, refl}
 use mathlib.Core.List.{List, [], _∷_, _++_, map}
 use Prim.Native.Nat.{ℕ}
+use native.Mathlib.Omega.{arith}
 use lib.ListN.{length, drop}
 use Rattle.gf2.specs.Poly.{degree}
 use Rattle.field.specs.Refusals.{Verdict, clear, refuse, firstOf}
@@ -55,6 +56,12 @@ pub issued-report : (v : Verdict) (s : Summary) → issuedReport (issuedOf v s) 
 unfolding issuedOf issuedReport issueOf
 issued-report clear s = refl
 issued-report (refuse k p) s = refl
+
+-- a verdict that issues is clear
+pub done-clear : (v : Verdict) (s t : Summary) → issuedOf v s ≡ issued.Done t → v ≡ clear
+unfolding issuedOf
+done-clear clear s t e = refl
+done-clear (refuse k p) s t e = let z : _≡_ {A = ℕ} 0 1 = cc in absurd (omega arith)
 
 -- "Build and reading answer n, complexity and grade."
 abbrev pub summaryWith : (n : ℕ) (table : List ℕ) → Summary

@@ -35,6 +35,12 @@ first-append (r ∷ xs) ys =
     ap (cond (r .applies) (refuse (r .number) (r .place))) (first-append xs ys)
     ∙ cond-then (r .applies) (r .number) (r .place) (firstOf xs) (firstOf ys)
 
+-- where the whole is clear both parts are
+pub then-clear : (v w : Verdict) → andThen v w ≡ clear → (v ≡ clear) × (w ≡ clear)
+unfolding andThen
+then-clear clear w e = (refl, e)
+then-clear (refuse k p) w e = let z : _≡_ {A = ℕ} 0 1 = cc in absurd (omega arith)
+
 -- ---- no condition has the number 0, so a refusal is told from none by its number
 
 pub data Numbered : List Rule → Type 0 where

@@ -4,7 +4,7 @@
 //   the check of 2^46 + 3, which goes past refusal 1, and of 2^47, which gets it.
 use field::Checked;
 use libc::STDOUT_FILENO;
-use normal::Grade;
+use normal::grade_number;
 use search::Search;
 
 // A polynomial that is accepted, for each degree from 2 on.
@@ -41,15 +41,6 @@ fn print_after_space(number: u64) {
 
 fn end_line() {
     io::write_all(STDOUT_FILENO, b"\n");
-}
-
-// Document 01's number of a grade.
-fn grade_number(grade: Grade) -> u64 {
-    match grade {
-        Grade::Zero => 0,
-        Grade::One => 1,
-        Grade::Two => 2,
-    }
 }
 
 // The least complexity in a whole field, or 0.

@@ -1,9 +1,9 @@
--- `listing::lines::grade_number` meets its contract: by the case of the grade.
+-- `normal::grade::grade_number` meets its contract: by the case of the grade.
 -- Assumes nothing.
 use borrow.Author.Needs.{needs}
 use Rattle.normal.specs.Grades.{gradeNumber}
-use Rattle.listing.proofs.lines.grade_number.Statement.{statement}
-use Rattle.listing.proofs.lines.grade_number.Tie as tie
+use Rattle.normal.proofs.grade.grade_number.Statement.{statement}
+use Rattle.normal.proofs.grade.grade_number.Tie as tie
 
 enum-told : tie.Need-enum-told
 enum-told c = search needs
