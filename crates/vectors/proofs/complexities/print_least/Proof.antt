@@ -1,9 +1,9 @@
--- `vectors::print_complexities` meets its contract. The measure is the number of degrees left. Assumes nothing.
+-- `vectors::complexities::print_least` meets its contract. The measure is the number of degrees left. Assumes nothing.
 use Prim.Native.Nat.{ℕ, _-_, _*_, _%_, _^_, _≤_}
 use native.Mathlib.Omega.{arith}
 use lib.Pow.{pow-mono, pow-pos}
-use Rattle.vectors.proofs.print_complexities.Statement.{statement}
-use Rattle.vectors.proofs.print_complexities.Tie as tie
+use Rattle.vectors.proofs.complexities.print_least.Statement.{statement}
+use Rattle.vectors.proofs.complexities.print_least.Tie as tie
 
 abbrev Inv-loop : tie.InvT-loop
 Inv-loop n₀ n = (2 ≤ n) × (n ≤ 21)
@@ -17,9 +17,6 @@ shifted n h = omega (arith, pow-mono h, pow-pos n)
 
 loop-holds : tie.Need-loop-holds Inv-loop μ-loop
 loop-holds c = omega arith
-
-print-requires : tie.Need-print-requires Inv-loop μ-loop
-print-requires c κs = search
 
 sub-least-complexity : tie.Need-sub-least-complexity Inv-loop μ-loop
 sub-least-complexity c = omega arith
@@ -39,11 +36,8 @@ sub-least-complexity-2 c = shifted _ (omega arith)
 least-complexity-requires : tie.Need-least-complexity-requires Inv-loop μ-loop
 least-complexity-requires c κs = search
 
-print-after-space-requires : tie.Need-print-after-space-requires Inv-loop μ-loop
-print-after-space-requires c κs = search
-
-end-line-requires : tie.Need-end-line-requires Inv-loop μ-loop
-end-line-requires c κs = search
+say-complexity-requires : tie.Need-say-complexity-requires Inv-loop μ-loop
+say-complexity-requires c κs = search
 
 add-n : tie.Need-add-n Inv-loop μ-loop
 add-n c = omega arith
@@ -57,22 +51,20 @@ loop-again c = omega arith
 returns : tie.Need-returns Inv-loop μ-loop
 returns c = search
 
-pub print-complexities-spec : {M : Type 1} → statement M
-print-complexities-spec =
+pub print-least-spec : {M : Type 1} → statement M
+print-least-spec =
     tie.close
     (tie.spec
     Inv-loop
     μ-loop
     loop-holds
-    print-requires
     sub-least-complexity
     mul-least-complexity
     array-read-least-complexity
     shl-least-complexity
     sub-least-complexity-2
     least-complexity-requires
-    print-after-space-requires
-    end-line-requires
+    say-complexity-requires
     add-n
     loop-less
     loop-again

@@ -1,0 +1,31 @@
+// The searches at f = 19.
+use super::printing::end_line;
+use super::printing::say;
+use super::printing::say_number;
+use normal::grade_number;
+use search::Search;
+
+// What the search of a range answers.
+fn print_search(f: u64, first: u64, last: u64) {
+    say_number(b"f = ", f);
+    say_number(b", search ", first);
+    say_number(b" to ", last);
+    match search::search(f, first, last) {
+        Search::Refused(number) => say_number(b": refusal ", number as u64),
+        Search::Nothing => say(b": nothing"),
+        Search::Found(best) => {
+            let grade = best.grade;
+            say_number(b": ", best.element);
+            say_number(b", complexity ", best.complexity as u64);
+            say_number(b", grade ", grade_number(grade));
+            say_number(b", count ", best.count);
+        }
+    }
+    end_line();
+}
+
+pub fn run() {
+    print_search(19, 0, 15);
+    print_search(19, 9, 15);
+    print_search(19, 10, 15);
+}
