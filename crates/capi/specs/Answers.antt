@@ -1,0 +1,33 @@
+-- What the calls hand out, by document 01's numbers: field for field what its reports say.
+--
+--   deskValue p      a report of one value: check, multiply, square, trace, the conversions, times
+--   deskIssued p     that of a built or read sheet
+--   foundFlag s      1 where the search's answer is its case "found", else 0
+--   deskFound b p    that of the search, beside that flag
+--
+-- That a refusal's other values are zero stands in the reports (`reportOf`, `issueOf`, `refusedReport`).
+-- Assumes nothing.
+use Prim.Native.Nat.{ℕ}
+use Rattle.field.specs.Answers.{Report}
+use Rattle.sheet.specs.Answers.{Issue}
+use Rattle.search.specs.Answers.{SearchReport}
+use Rattle.search.specs.declared.answer.Search.{Search}
+use Rattle.search.specs.declared.answer.Search.the-variants.{Refused, Nothing, Found}
+use Rattle.capi.specs.declared.answer.DeskValue.{DeskValue}
+use Rattle.capi.specs.declared.answer.DeskIssued.{DeskIssued}
+use Rattle.capi.specs.declared.answer.DeskFound.{DeskFound}
+
+abbrev pub deskValue : Report → DeskValue
+deskValue p = record { number = p .number; place = p .place; value = p .value }
+
+abbrev pub deskIssued : Issue → DeskIssued
+deskIssued p = record { number = p .number; place = p .place; degree = p .degree; complexity = p .complexity; grade = p .grade }
+
+-- "the search answers one of three: refused with a number; nothing, ..; or found"
+unfoldable pub foundFlag : Search → ℕ
+foundFlag (Refused k) = 0
+foundFlag Nothing = 0
+foundFlag (Found x) = 1
+
+abbrev pub deskFound : (found : ℕ) → SearchReport → DeskFound
+deskFound b p = record { number = p .number; found = b; element = p .element; complexity = p .complexity; grade = p .grade; count = p .count }

@@ -1,0 +1,115 @@
+// The twelve calls. Each takes any numbers and lent memory, and its promise gives every number that it hands out and the last state of
+// what it may write.
+ghost use mathlib.Core.Path.{_≡_};
+ghost use lib.ListN.{length};
+ghost use Rattle.field.specs.Answers.{checkReport, multiplyReport, squareReport, traceReport};
+ghost use Rattle.sheet.specs.Record.{conjugateAt, inverseAt};
+ghost use Rattle.sheet.specs.Answers.{buildReport, builtBuffer, readReport, polynomialReport, normalReport, timesReport, listReport, convertedList};
+ghost use Rattle.search.specs.Answers.{searchAnswer, searchReport};
+ghost use Rattle.capi.specs.Answers.{deskValue, deskIssued, deskFound, foundFlag};
+use super::answer::DeskFound;
+use super::answer::DeskIssued;
+use super::answer::DeskValue;
+use super::answer::checked_out;
+use super::answer::found_out;
+use super::answer::issued_out;
+use super::answer::value_out;
+
+// Whether f is accepted.
+#[no_mangle]
+pub extern "C" fn desk_check(f: u64) -> DeskValue
+    ensures { λ r. ⌜ r ≡ deskValue (checkReport f) ⌝ }
+{
+    checked_out(field::check(f))
+}
+
+// a times b modulo f.
+#[no_mangle]
+pub extern "C" fn desk_multiply(f: u64, a: u64, b: u64) -> DeskValue
+    ensures { λ r. ⌜ r ≡ deskValue (multiplyReport f a b) ⌝ }
+{
+    value_out(field::multiply(f, a, b))
+}
+
+// a times a modulo f.
+#[no_mangle]
+pub extern "C" fn desk_square(f: u64, a: u64) -> DeskValue
+    ensures { λ r. ⌜ r ≡ deskValue (squareReport f a) ⌝ }
+{
+    value_out(field::square(f, a))
+}
+
+// The trace of a.
+#[no_mangle]
+pub extern "C" fn desk_trace(f: u64, a: u64) -> DeskValue
+    ensures { λ r. ⌜ r ≡ deskValue (traceReport f a) ⌝ }
+{
+    value_out(field::trace(f, a))
+}
+
+// The sheet of f and the element, at the buffer's front.
+#[no_mangle]
+pub extern "C" fn desk_build(f: u64, element: u64, buffer: &mut [u8]) -> DeskIssued
+    ensures answer { λ r. ⌜ r ≡ deskIssued (buildReport f element (length (now (buffer .entry)))) ⌝ }
+    ensures written { λ r. ⌜ now (buffer .exit) ≡ builtBuffer f element (now (buffer .entry)) ⌝ }
+{
+    issued_out(sheet::build(f, element, buffer))
+}
+
+// Whether the sheet is one that build writes.
+#[no_mangle]
+pub extern "C" fn desk_read(sheet: &[u8]) -> DeskIssued
+    ensures { λ r. ⌜ r ≡ deskIssued (readReport (now (sheet .entry))) ⌝ }
+{
+    issued_out(sheet::read(sheet))
+}
+
+// The element that normal coordinates stand for.
+#[no_mangle]
+pub extern "C" fn desk_to_polynomial(sheet: &[u8], coordinates: u64) -> DeskValue
+    ensures { λ r. ⌜ r ≡ deskValue (polynomialReport (now (sheet .entry)) coordinates) ⌝ }
+{
+    value_out(sheet::to_polynomial(sheet, coordinates))
+}
+
+// The normal coordinates of an element.
+#[no_mangle]
+pub extern "C" fn desk_to_normal(sheet: &[u8], element: u64) -> DeskValue
+    ensures { λ r. ⌜ r ≡ deskValue (normalReport (now (sheet .entry)) element) ⌝ }
+{
+    value_out(sheet::to_normal(sheet, element))
+}
+
+// The elements that a list of normal coordinates stands for.
+#[no_mangle]
+pub extern "C" fn desk_list_to_polynomial(sheet: &[u8], from: &[u64], into: &mut [u64]) -> DeskValue
+    ensures answer { λ r. ⌜ r ≡ deskValue (listReport (now (sheet .entry)) (now (from .entry)) (length (now (into .entry)))) ⌝ }
+    ensures written { λ r. ⌜ now (into .exit) ≡ convertedList (now (sheet .entry)) conjugateAt (now (from .entry)) (now (into .entry)) ⌝ }
+{
+    checked_out(sheet::list_to_polynomial(sheet, from, into))
+}
+
+// The normal coordinates of a list of elements.
+#[no_mangle]
+pub extern "C" fn desk_list_to_normal(sheet: &[u8], from: &[u64], into: &mut [u64]) -> DeskValue
+    ensures answer { λ r. ⌜ r ≡ deskValue (listReport (now (sheet .entry)) (now (from .entry)) (length (now (into .entry)))) ⌝ }
+    ensures written { λ r. ⌜ now (into .exit) ≡ convertedList (now (sheet .entry)) inverseAt (now (from .entry)) (now (into .entry)) ⌝ }
+{
+    checked_out(sheet::list_to_normal(sheet, from, into))
+}
+
+// The product of normal coordinates a and b.
+#[no_mangle]
+pub extern "C" fn desk_times(sheet: &[u8], a: u64, b: u64) -> DeskValue
+    ensures { λ r. ⌜ r ≡ deskValue (timesReport (now (sheet .entry)) a b) ⌝ }
+{
+    value_out(sheet::times(sheet, a, b))
+}
+
+// The normal class leader from first to last, both included, whose table has the fewest ones.
+#[no_mangle]
+pub extern "C" fn desk_search(f: u64, first: u64, last: u64) -> DeskFound
+    ensures { λ r. ⌜ r ≡ deskFound (foundFlag (searchAnswer f first last)) (searchReport f first last) ⌝ }
+{
+    found_out(search::search(f, first, last))
+}

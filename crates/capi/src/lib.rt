@@ -1,0 +1,19 @@
+// The calls of the desk for C and Rust: each hands its arguments to the library's call of that name, and its answer out as numbers.
+mod answer;
+mod calls;
+
+pub use answer::DeskFound;
+pub use answer::DeskIssued;
+pub use answer::DeskValue;
+pub use calls::desk_build;
+pub use calls::desk_check;
+pub use calls::desk_list_to_normal;
+pub use calls::desk_list_to_polynomial;
+pub use calls::desk_multiply;
+pub use calls::desk_read;
+pub use calls::desk_search;
+pub use calls::desk_square;
+pub use calls::desk_times;
+pub use calls::desk_to_normal;
+pub use calls::desk_to_polynomial;
+pub use calls::desk_trace;
