@@ -2,7 +2,7 @@
 ghost use mathlib.Core.Path.{_≡_};
 ghost use Rattle.field.specs.Answers.{valueReport, checkedReport};
 ghost use Rattle.sheet.specs.Answers.{issuedReport};
-ghost use Rattle.search.specs.Answers.{caseReport};
+ghost use Rattle.search.specs.Answers.{refusedReport, caseReport};
 ghost use Rattle.capi.specs.Answers.{deskValue, deskIssued, deskFound, foundFlag};
 use field::Checked;
 use field::Value;
@@ -39,6 +39,7 @@ pub struct DeskFound {
     pub count: u64,
 }
 
+// An answer of one value, handed out.
 pub fn value_out(answer: Value) -> DeskValue
     ensures { λ r. ⌜ r ≡ deskValue (valueReport answer) ⌝ }
 {
@@ -56,23 +57,17 @@ pub fn value_out(answer: Value) -> DeskValue
     }
 }
 
+// An answer of no value, handed out as one of the value 0.
 pub fn checked_out(answer: Checked) -> DeskValue
     ensures { λ r. ⌜ r ≡ deskValue (checkedReport answer) ⌝ }
 {
     match answer {
-        Checked::Refused(refusal) => DeskValue {
-            number: refusal.number as u64,
-            place: refusal.place as u64,
-            value: 0,
-        },
-        Checked::Done => DeskValue {
-            number: 0,
-            place: 0,
-            value: 0,
-        },
+        Checked::Refused(refusal) => value_out(Value::Refused(refusal)),
+        Checked::Done => value_out(Value::Done(0)),
     }
 }
 
+// The answer of build or of reading, handed out.
 pub fn issued_out(answer: Issued) -> DeskIssued
     ensures { λ r. ⌜ r ≡ deskIssued (issuedReport answer) ⌝ }
 {
@@ -97,26 +92,27 @@ pub fn issued_out(answer: Issued) -> DeskIssued
     }
 }
 
+// What a search that finds nothing hands out: the number of its refusal, or 0.
+fn not_found(number: u64) -> DeskFound
+    ensures { λ r. ⌜ r ≡ deskFound 0 (refusedReport number) ⌝ }
+{
+    DeskFound {
+        number,
+        found: 0,
+        element: 0,
+        complexity: 0,
+        grade: 0,
+        count: 0,
+    }
+}
+
+// The answer of the search, handed out.
 pub fn found_out(answer: Search) -> DeskFound
     ensures { λ r. ⌜ r ≡ deskFound (foundFlag answer) (caseReport answer) ⌝ }
 {
     match answer {
-        Search::Refused(number) => DeskFound {
-            number: number as u64,
-            found: 0,
-            element: 0,
-            complexity: 0,
-            grade: 0,
-            count: 0,
-        },
-        Search::Nothing => DeskFound {
-            number: 0,
-            found: 0,
-            element: 0,
-            complexity: 0,
-            grade: 0,
-            count: 0,
-        },
+        Search::Refused(number) => not_found(number as u64),
+        Search::Nothing => not_found(0),
         Search::Found(best) => {
             let grade = best.grade;
             DeskFound {
