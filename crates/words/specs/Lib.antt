@@ -1,5 +1,5 @@
--- Typed numbers: definitions in `Notation`, laws in the rest. What the definitions mean is said in `NumberMeaning`, `Joining` and
--- `PolynomialMeaning`.
+-- Typed numbers: definitions in `Notation`, laws in the rest. `NumberMeaning`, `Joining` and `PolynomialMeaning` say what the
+-- definitions mean, `Printed` that a printed number is read back.
 pub mod Notation
 pub mod Digits
 pub mod Spelling
@@ -8,4 +8,5 @@ pub mod Exponents
 pub mod NumberMeaning
 pub mod Joining
 pub mod PolynomialMeaning
+pub mod Printed
 pub mod Examples

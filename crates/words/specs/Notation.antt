@@ -1,17 +1,23 @@
--- What a designer types: a word, as its bytes, and the 64-bit number that it means. Definitions alone.
+-- What a designer types: a word, as its bytes, and the 64-bit number that it means. Definitions alone. A word is one of
 --
---   worth byte               what a byte is worth as a digit; 16 where it is none
+--   decimal       one or more digits `0` to `9`; leading zeros are allowed
+--   hexadecimal   `0x`, and then one or more digits `0` to `9`, `a` to `f`, `A` to `F`
+--   exponents     of polynomials only: two or more decimal numbers below 64, with one `:` between, strictly falling
+--
+-- The value is below 2 ^ 64, and any other word is unclear. `46:1:0` means 2 ^ 46 + 2 ^ 1 + 2 ^ 0.
+--
+--   worth byte               what a byte is worth as a digit; 16, which no base here has, where it is none
 --   digitsOnly base word     every byte is a digit of the base
 --   value base word          the number that the digits spell, the highest first
 --   spells base bound word   the word is one or more digits, with a value below the bound
---   numberIn base bound w    that value; anything else is unclear
---   marked word              the word begins with 0x
+--   numberIn base bound w    that value; any other word is unclear
+--   marked word              the word begins with `0x`
 --   numberOf word            what a word means as a number
 --   parts word               the parts between the colons
 --   exponent part            the part is a decimal number below 64
 --   falling es               each is smaller than the one before
 --   powers es                the sum of the powers of two with these exponents
---   exponentsOf parts        what the parts mean as the exponents of a polynomial
+--   exponentsOf split        what the parts mean as exponents
 --   polynomialOf word        what a word means as a polynomial
 --
 -- Assumes nothing.
@@ -45,7 +51,7 @@ valueAfter base before (byte ∷ bytes) = valueAfter base (before * base + worth
 abbrev pub value : (base : ℕ) → List ℕ → ℕ
 value base word = valueAfter base 0 word
 
--- "one or more digits", value below the bound; leading zeros are allowed
+-- "one or more digits", with a value below the bound
 unfoldable pub spells : (base bound : ℕ) → List ℕ → Bool
 spells base bound word = ltb 0 (length word) && (digitsOnly base word && ltb (value base word) bound)
 
@@ -54,16 +60,17 @@ numberIn base bound word = cond (spells base bound word) (Number (value base wor
 
 -- ---- numbers
 
--- 48 is `0`, 120 is `x`; past a word's end `getD` is 0
+-- 48 is `0` and 120 is `x`; past a word's end `getD` is 0
 unfoldable pub marked : List ℕ → Bool
 marked word = eqb (getD word 0 0) 48 && eqb (getD word 1 0) 120
 
--- decimal, or `0x` and then hexadecimal; the value is below 2 ^ 64
+-- "`0x` and then one or more digits"; a word without that mark is decimal
 unfoldable pub numberOf : List ℕ → Word
 numberOf word = cond (marked word) (numberIn 16 (2 ^ 64) (drop 2 word)) (numberIn 10 (2 ^ 64) word)
 
 -- ---- exponents
 
+-- `:`
 abbrev pub colon : ℕ
 colon = 58
 
@@ -77,6 +84,7 @@ unfoldable pub parts : List ℕ → List (List ℕ)
 parts [] = [] ∷ []
 parts (byte ∷ bytes) = cond (eqb byte colon) ([] ∷ parts bytes) (ahead byte (parts bytes))
 
+-- "decimal numbers, each below 64"
 unfoldable pub exponent : List ℕ → Bool
 exponent part = spells 10 64 part
 
@@ -90,16 +98,17 @@ falling [] = true
 falling (e ∷ []) = true
 falling (e ∷ (f ∷ es)) = ltb f e && falling (f ∷ es)
 
+-- "`46:1:0` means 2^46 + 2^1 + 2^0"
 unfoldable pub powers : List ℕ → ℕ
 powers [] = 0
 powers (e ∷ es) = 2 ^ e + powers es
 
--- "decimal numbers, each below 64, strictly falling; `46:1:0` means 2^46 + 2^1 + 2^0"
+-- the exponents, where every part is one and they fall
 unfoldable pub exponentsOf : List (List ℕ) → Word
 exponentsOf split =
     let es : List ℕ = map (value 10) split in
     cond (everyExponent split && falling es) (Number (powers es)) Unclear
 
--- a word with a colon is exponents; "a lone number without `:` is decimal, not an exponent"
+-- "two or more" parts are exponents; "a lone number without `:` is decimal, not an exponent"
 unfoldable pub polynomialOf : List ℕ → Word
 polynomialOf word = cond (ltb 1 (length (parts word))) (exponentsOf (parts word)) (numberOf word)
