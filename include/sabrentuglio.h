@@ -10,7 +10,7 @@
  *    0        the degree n
  *    1        the row number i
  *    2-7      f without its term x^n
- *    8-15     conjugate row: the element squared i times in a row
+ *    8-15     conjugate row: the element squared i times
  *    16-23    inverse row: the normal coordinates of x^i
  *    24-31    table row: the normal coordinates of conjugate 0 times conjugate i
  *
@@ -20,7 +20,7 @@
  *    no.  given exactly when                                                            place
  *     1   the degree of f is below 2 or above 46; f = 0 too                             0
  *     2   some polynomial of degree 1 to n-1 divides f                                  0
- *     3   squaring x n times in a row modulo f does not return x                        0
+ *     3   x squared n times in a row modulo f is not x again                            0
  *     4   an element, a coordinate number or an end of a range is 2^n or more           the first such index in a list, else 0
  *     5   the element is not normal                                                     0
  *     6   the buffer is shorter than 32n bytes                                          0

@@ -1,8 +1,7 @@
 -- `capi::calls::desk_search` meets its contract: what the library's call promises, handed out.
 -- Assumes nothing.
-use mathlib.Core.Path.{ap, _∙_}
+use mathlib.Core.Path.{_∙_}
 use borrow.Author.Needs.{needs}
-use Rattle.capi.specs.Answers.{deskFound, foundFlag}
 use Rattle.capi.proofs.calls.desk_search.Statement.{statement}
 use Rattle.capi.proofs.calls.desk_search.Tie as tie
 
