@@ -1,0 +1,66 @@
+// The commands, and the word that names each.
+use check::same;
+
+pub enum Command {
+    Check,
+    Multiply,
+    Square,
+    Trace,
+    Search,
+    Build,
+    Show,
+    List,
+    Times,
+    Normal,
+    Polynomial,
+    Help,
+    Unknown,
+}
+
+fn field_command_of(word: &[u8]) -> Command {
+    if same(word, b"check") {
+        Command::Check
+    } else if same(word, b"multiply") {
+        Command::Multiply
+    } else if same(word, b"square") {
+        Command::Square
+    } else if same(word, b"trace") {
+        Command::Trace
+    } else if same(word, b"search") {
+        Command::Search
+    } else {
+        Command::Unknown
+    }
+}
+
+fn sheet_command_of(word: &[u8]) -> Command {
+    if same(word, b"build") {
+        Command::Build
+    } else if same(word, b"show") {
+        Command::Show
+    } else if same(word, b"list") {
+        Command::List
+    } else if same(word, b"times") {
+        Command::Times
+    } else if same(word, b"normal") {
+        Command::Normal
+    } else if same(word, b"polynomial") {
+        Command::Polynomial
+    } else {
+        field_command_of(word)
+    }
+}
+
+// The command that a word names. No word at all asks for help.
+pub fn command_of(word: &[u8]) -> Command {
+    if word.len() == 0 {
+        return Command::Help;
+    }
+    if same(word, b"help") {
+        return Command::Help;
+    }
+    if same(word, b"--help") {
+        return Command::Help;
+    }
+    sheet_command_of(word)
+}
