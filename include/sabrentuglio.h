@@ -118,14 +118,14 @@ desk_value desk_trace(uint64_t f, uint64_t a);
  * stay; 1,472 bytes are enough for every f. Where it is refused, the whole buffer stays.
  * Refusals in order: 1, 4, 6, 2, 3, 5.
  */
-desk_issued desk_build(uint64_t f, uint64_t element, uint8_t *buffer, size_t buffer_length);
+desk_issued desk_build(uint64_t f, uint64_t element, uint8_t *buffer, size_t length);
 
 /*
  * Reads a sheet and rebuilds it: done exactly for the sheets that desk_build writes, handed in at their own length. Writes nothing.
  * Refusals in order: 7; then, for each record from 0 upward, 8 before 9; then 2 and 3 for the sheet's polynomial and 5 for the
  * conjugate of its record 0; then 10.
  */
-desk_issued desk_read(const uint8_t *sheet, size_t sheet_length);
+desk_issued desk_read(const uint8_t *sheet, size_t length);
 
 /*
  * The element that normal coordinates stand for: the sum (exclusive or) of the sheet's conjugate rows that their bits pick. The
@@ -133,14 +133,14 @@ desk_issued desk_read(const uint8_t *sheet, size_t sheet_length);
  * nothing.
  * Refusals in order: 7; then, for each record from 0 upward, 8 before 9; then 4.
  */
-desk_value desk_to_polynomial(const uint8_t *sheet, size_t sheet_length, uint64_t coordinates);
+desk_value desk_to_polynomial(const uint8_t *sheet, size_t length, uint64_t coordinates);
 
 /*
  * The normal coordinates of an element: the sum of the sheet's inverse rows that its bits pick, taken as they stand and not
  * rebuilt. Writes nothing.
  * Refusals in order: 7; then, for each record from 0 upward, 8 before 9; then 4.
  */
-desk_value desk_to_normal(const uint8_t *sheet, size_t sheet_length, uint64_t element);
+desk_value desk_to_normal(const uint8_t *sheet, size_t length, uint64_t element);
 
 /*
  * desk_to_polynomial for every value of a list: into[i] is the element that from[i] stands for. At most 4,096 values; the two
@@ -149,22 +149,22 @@ desk_value desk_to_normal(const uint8_t *sheet, size_t sheet_length, uint64_t el
  * Refusals in order: 7; then, for each record from 0 upward, 8 before 9; then 11; then 4, whose place is the first index of
  * `from` with such a value.
  */
-desk_value desk_list_to_polynomial(const uint8_t *sheet, size_t sheet_length, const uint64_t *from, size_t from_length,
-                                   uint64_t *into, size_t into_length);
+desk_value desk_list_to_polynomial(const uint8_t *sheet, size_t length, const uint64_t *from, size_t from_count,
+                                   uint64_t *into, size_t into_count);
 
 /*
  * desk_to_normal for every value of a list: into[i] is the normal coordinates of from[i]. Lengths, value, what is written and what
  * stays, and the refusals are those of desk_list_to_polynomial.
  */
-desk_value desk_list_to_normal(const uint8_t *sheet, size_t sheet_length, const uint64_t *from, size_t from_length,
-                               uint64_t *into, size_t into_length);
+desk_value desk_list_to_normal(const uint8_t *sheet, size_t length, const uint64_t *from, size_t from_count,
+                               uint64_t *into, size_t into_count);
 
 /*
  * The product of normal coordinates a and b, in normal coordinates, by the sheet's table rows, taken as they stand and not
  * rebuilt. Writes nothing.
  * Refusals in order: 7; then, for each record from 0 upward, 8 before 9; then 4 (a or b).
  */
-desk_value desk_times(const uint8_t *sheet, size_t sheet_length, uint64_t a, uint64_t b);
+desk_value desk_times(const uint8_t *sheet, size_t length, uint64_t a, uint64_t b);
 
 /*
  * The normal basis of least complexity among the class leaders from first to last, both included; of several the one of the
