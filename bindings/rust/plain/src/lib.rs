@@ -1,0 +1,27 @@
+//! Document 01 in plain Rust, written from its sentences alone, so that the
+//! desk's archive can be compared with something that shares no line with it.
+//!
+//! In order: [`answers`] has what the calls answer; [`polynomial`] the
+//! arithmetic; [`accepted`] the tests of f; [`basis`] the three matrices of a
+//! normal basis; [`field`], [`sheet`], [`lists`] and [`search`] the twelve calls.
+//!
+//! Nothing here is quick on purpose. Every 64-bit number is a legal argument of
+//! every call; on a refusal what was lent stays as it came.
+
+#![forbid(unsafe_code)]
+#![warn(missing_docs)]
+
+pub mod accepted;
+pub mod answers;
+pub mod basis;
+pub mod field;
+pub mod lists;
+pub mod polynomial;
+pub mod search;
+pub mod sheet;
+
+pub use answers::{Found, Issued, Refusal, Value};
+pub use field::{check, multiply, square, trace};
+pub use lists::{list_to_normal, list_to_polynomial};
+pub use search::search;
+pub use sheet::{build, read, times, to_normal, to_polynomial};
