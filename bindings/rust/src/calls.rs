@@ -1,0 +1,203 @@
+//! The twelve calls one to one, with results; buffers and lists are lent.
+//!
+//! Each names its refusals in the order in which they are tested.
+
+use crate::answer::{Best, Summary};
+use crate::raw;
+use crate::refusal::Refusal;
+
+/// Checks a defining polynomial: done where f is accepted, that is of degree 2
+/// to 46 and without a divisor of degree 1 to n-1.
+///
+/// Refuses 1, 2, 3.
+///
+/// ```
+/// use sabrentuglio::{check, Reason};
+///
+/// assert!(check(19).is_ok());
+/// assert_eq!(check(3).unwrap_err().reason, Reason::Degree);
+/// assert_eq!(check(5).unwrap_err().reason, Reason::Divisor);
+/// ```
+pub fn check(f: u64) -> Result<(), Refusal> {
+    Result::from(raw::check(f)).map(|_| ())
+}
+
+/// a times b modulo f, for any f of degree 2 to 46, accepted or not.
+///
+/// Refuses 1, 4.
+///
+/// ```
+/// assert_eq!(sabrentuglio::multiply(19, 8, 12)?, 10);
+/// # Ok::<(), sabrentuglio::Refusal>(())
+/// ```
+pub fn multiply(f: u64, a: u64, b: u64) -> Result<u64, Refusal> {
+    raw::multiply(f, a, b).into()
+}
+
+/// a times a modulo f, for any f of degree 2 to 46, accepted or not.
+///
+/// Refuses 1, 4.
+///
+/// ```
+/// assert_eq!(sabrentuglio::square(19, 8)?, 12);
+/// # Ok::<(), sabrentuglio::Refusal>(())
+/// ```
+pub fn square(f: u64, a: u64) -> Result<u64, Refusal> {
+    raw::square(f, a).into()
+}
+
+/// The trace, the sum of the n conjugates of a: 0 or 1.
+///
+/// Refuses 1, 4, 2, 3.
+///
+/// ```
+/// assert_eq!(sabrentuglio::trace(19, 8)?, 1);
+/// # Ok::<(), sabrentuglio::Refusal>(())
+/// ```
+pub fn trace(f: u64, a: u64) -> Result<u64, Refusal> {
+    raw::trace(f, a).into()
+}
+
+/// Writes the sheet of f and a normal element into the first 32n bytes of the
+/// buffer, and leaves the others. [`Sheet::build`](crate::Sheet::build) brings
+/// its own buffer.
+///
+/// Refuses 1, 4, 6, 2, 3, 5.
+///
+/// ```
+/// let mut buffer = [9; 100];
+/// let summary = sabrentuglio::build(7, 2, &mut buffer)?;
+/// assert_eq!((summary.degree, summary.complexity), (2, 3));
+/// assert_eq!(buffer[32..40], [2, 1, 3, 0, 0, 0, 0, 0]);
+/// assert_eq!(buffer[64..], [9; 36]);
+/// # Ok::<(), sabrentuglio::Refusal>(())
+/// ```
+pub fn build(f: u64, element: u64, buffer: &mut [u8]) -> Result<Summary, Refusal> {
+    raw::build(f, element, buffer).into()
+}
+
+/// Reads a sheet: done exactly where [`build`] writes these bytes.
+///
+/// Refuses 7, then 8 and 9 record by record, 2, 3, 5, 10.
+///
+/// ```
+/// use sabrentuglio::{build, read, Reason};
+///
+/// let mut sheet = [0; 96];
+/// let summary = build(11, 3, &mut sheet)?;
+/// assert_eq!(read(&sheet)?, summary);
+///
+/// sheet[64 + 24] ^= 1;
+/// let refusal = read(&sheet).unwrap_err();
+/// assert_eq!((refusal.reason, refusal.place), (Reason::RecordDiffers, 2));
+/// # Ok::<(), sabrentuglio::Refusal>(())
+/// ```
+pub fn read(sheet: &[u8]) -> Result<Summary, Refusal> {
+    raw::read(sheet).into()
+}
+
+/// The element that normal coordinates stand for, by the conjugate rows as
+/// they stand in the sheet.
+///
+/// Refuses 7, then 8 and 9 record by record, 4.
+///
+/// ```
+/// let mut sheet = [0; 96];
+/// sabrentuglio::build(11, 3, &mut sheet)?;
+/// assert_eq!(sabrentuglio::to_polynomial(&sheet, 5)?, 4);
+/// # Ok::<(), sabrentuglio::Refusal>(())
+/// ```
+pub fn to_polynomial(sheet: &[u8], coordinates: u64) -> Result<u64, Refusal> {
+    raw::to_polynomial(sheet, coordinates).into()
+}
+
+/// The normal coordinates of an element, by the inverse rows as they stand in
+/// the sheet.
+///
+/// Refuses 7, then 8 and 9 record by record, 4.
+///
+/// ```
+/// let mut sheet = [0; 96];
+/// sabrentuglio::build(11, 3, &mut sheet)?;
+/// assert_eq!(sabrentuglio::to_normal(&sheet, 6)?, 3);
+/// # Ok::<(), sabrentuglio::Refusal>(())
+/// ```
+pub fn to_normal(sheet: &[u8], element: u64) -> Result<u64, Refusal> {
+    raw::to_normal(sheet, element).into()
+}
+
+/// [`to_polynomial`] for each value of `from`, written to the same index of
+/// `into`, which has the same length, at most 4,096.
+///
+/// Refuses 7, then 8 and 9 record by record, 11, 4; the place of 4 is the index
+/// of the first value that is too large.
+///
+/// ```
+/// let mut sheet = [0; 96];
+/// sabrentuglio::build(11, 3, &mut sheet)?;
+/// let mut into = [0; 2];
+/// sabrentuglio::list_to_polynomial(&sheet, &[3, 5], &mut into)?;
+/// assert_eq!(into, [6, 4]);
+/// # Ok::<(), sabrentuglio::Refusal>(())
+/// ```
+pub fn list_to_polynomial(sheet: &[u8], from: &[u64], into: &mut [u64]) -> Result<(), Refusal> {
+    Result::from(raw::list_to_polynomial(sheet, from, into)).map(|_| ())
+}
+
+/// [`to_normal`] for each value of `from`, written to the same index of `into`,
+/// which has the same length, at most 4,096.
+///
+/// Refuses as [`list_to_polynomial`] does.
+///
+/// ```
+/// use sabrentuglio::{build, list_to_normal, Reason};
+///
+/// let mut sheet = [0; 96];
+/// build(11, 3, &mut sheet)?;
+/// let mut into = [0; 2];
+/// list_to_normal(&sheet, &[6, 4], &mut into)?;
+/// assert_eq!(into, [3, 5]);
+///
+/// let refusal = list_to_normal(&sheet, &[6, 8], &mut into).unwrap_err();
+/// assert_eq!((refusal.reason, refusal.place), (Reason::TooLarge, 1));
+/// assert_eq!(into, [3, 5]);
+/// # Ok::<(), sabrentuglio::Refusal>(())
+/// ```
+pub fn list_to_normal(sheet: &[u8], from: &[u64], into: &mut [u64]) -> Result<(), Refusal> {
+    Result::from(raw::list_to_normal(sheet, from, into)).map(|_| ())
+}
+
+/// The product of the normal coordinates a and b, in normal coordinates, by
+/// the table rows as they stand in the sheet.
+///
+/// Refuses 7, then 8 and 9 record by record, 4.
+///
+/// ```
+/// let mut sheet = [0; 96];
+/// sabrentuglio::build(11, 3, &mut sheet)?;
+/// assert_eq!(sabrentuglio::times(&sheet, 1, 2)?, 5);
+/// # Ok::<(), sabrentuglio::Refusal>(())
+/// ```
+pub fn times(sheet: &[u8], a: u64, b: u64) -> Result<u64, Refusal> {
+    raw::times(sheet, a, b).into()
+}
+
+/// Searches the elements from first to last, both included, for the normal
+/// leader of least complexity; `None` where there is no normal leader.
+///
+/// A leader is the smallest of its conjugates. All conjugates of a normal
+/// element have the same table, so the leaders stand for the whole field.
+///
+/// Refuses 1, 4, 12, 2, 3.
+///
+/// ```
+/// use sabrentuglio::{search, Best, Grade};
+///
+/// let best = Best { element: 8, complexity: 7, grade: Grade::OptimalPrime, count: 2 };
+/// assert_eq!(search(19, 0, 15)?, Some(best));
+/// assert_eq!(search(19, 10, 15)?, None);
+/// # Ok::<(), sabrentuglio::Refusal>(())
+/// ```
+pub fn search(f: u64, first: u64, last: u64) -> Result<Option<Best>, Refusal> {
+    raw::search(f, first, last).into()
+}

@@ -1,0 +1,58 @@
+//! The desk: elements of GF(2^n), n from 2 to 46, in two notations.
+//!
+//! In the polynomial notation an element is a 64-bit number below 2^n whose
+//! bit i is the coefficient of x^i, reduced modulo a defining polynomial f. In
+//! normal coordinates it is a sum of conjugates of one normal element. A sheet
+//! is a file of one normal basis, by which values go from one notation to the
+//! other.
+//!
+//! The work is done by the desk's archive, whose code is proved to meet the
+//! project's build description, document 01; this crate only hands calls over.
+//! [`Sheet`] owns a sheet that the desk built or accepted. The functions are
+//! the twelve calls one to one, over slices that you lend: [`check`],
+//! [`multiply`], [`square`], [`trace`], [`build`], [`read`], [`to_polynomial`],
+//! [`to_normal`], [`list_to_polynomial`], [`list_to_normal`], [`times`],
+//! [`search`]. [`raw`] has the same with the answers as flat numbers.
+//!
+//! Every number is a legal argument. What the desk does not do it refuses, with
+//! a [`Refusal`], and then every buffer and list stays as it came.
+//!
+//! ```
+//! use sabrentuglio::{multiply, Reason, Sheet};
+//!
+//! let sheet = Sheet::build(11, 3)?;
+//! let (a, b) = (sheet.to_normal(6)?, sheet.to_normal(4)?);
+//! let product = sheet.to_polynomial(sheet.times(a, b)?)?;
+//! assert_eq!(product, multiply(11, 6, 4)?);
+//!
+//! let refusal = Sheet::build(11, 2).unwrap_err();
+//! assert_eq!(refusal.reason, Reason::NotNormal);
+//! # Ok::<(), sabrentuglio::Refusal>(())
+//! ```
+
+#![deny(unsafe_code)]
+#![warn(missing_docs)]
+
+mod answer;
+mod calls;
+pub mod raw;
+mod refusal;
+mod sheet;
+
+pub use answer::{Best, Grade, Summary};
+pub use calls::{
+    build, check, list_to_normal, list_to_polynomial, multiply, read, search, square, times,
+    to_normal, to_polynomial, trace,
+};
+pub use refusal::{Reason, Refusal};
+pub use sheet::Sheet;
+
+/// The length of one record of a sheet in bytes.
+pub const RECORD_LENGTH: usize = 32;
+
+/// The highest degree of a defining polynomial, and so the most records of a
+/// sheet.
+pub const MAX_DEGREE: usize = 46;
+
+/// The most values of a list.
+pub const MAX_LIST: usize = 4096;

@@ -1,0 +1,186 @@
+//! The archive's functions as they are: flat answers of numbers.
+//!
+//! First the answers, then the C declarations, then one safe function for each
+//! of them. This is the crate's only module with unsafe code. What makes it
+//! sound is the same for every call: the desk reads and writes only inside the
+//! lengths it is handed, and keeps no pointer after it returns.
+//!
+//! ```
+//! use sabrentuglio::raw;
+//!
+//! let answer = raw::multiply(19, 8, 16);
+//! assert_eq!((answer.number, answer.place, answer.value), (4, 0, 0));
+//! ```
+
+#![allow(unsafe_code)]
+
+/// The answer of a call with one value; the value is 0 where it has none.
+#[repr(C)]
+#[derive(Clone, Copy, Debug, Default, PartialEq, Eq)]
+pub struct Value {
+    /// The number in document 01's refusal table, 0 for done.
+    pub number: u64,
+    /// The place that goes with the number.
+    pub place: u64,
+    /// What the call answers, 0 on a refusal.
+    pub value: u64,
+}
+
+/// The answer of building and reading a sheet; on a refusal the last three are
+/// zero.
+#[repr(C)]
+#[derive(Clone, Copy, Debug, Default, PartialEq, Eq)]
+pub struct Issued {
+    /// The number in document 01's refusal table, 0 for done.
+    pub number: u64,
+    /// The place that goes with the number.
+    pub place: u64,
+    /// The degree n of f.
+    pub degree: u64,
+    /// The number of ones in the table rows.
+    pub complexity: u64,
+    /// The grade, 0, 1 or 2.
+    pub grade: u64,
+}
+
+/// The answer of a search; on a refusal and where nothing was found the last
+/// five are zero.
+#[repr(C)]
+#[derive(Clone, Copy, Debug, Default, PartialEq, Eq)]
+pub struct Found {
+    /// The number in document 01's refusal table, 0 for done.
+    pub number: u64,
+    /// 1 where a normal leader lies in the range, else 0.
+    pub found: u64,
+    /// The leader of least complexity, the smallest where several tie.
+    pub element: u64,
+    /// Its complexity.
+    pub complexity: u64,
+    /// Its grade, 0, 1 or 2.
+    pub grade: u64,
+    /// How many normal leaders lie in the range.
+    pub count: u64,
+}
+
+extern "C" {
+    fn desk_check(f: u64) -> Value;
+    fn desk_multiply(f: u64, a: u64, b: u64) -> Value;
+    fn desk_square(f: u64, a: u64) -> Value;
+    fn desk_trace(f: u64, a: u64) -> Value;
+    fn desk_build(f: u64, element: u64, buffer: *mut u8, length: usize) -> Issued;
+    fn desk_read(sheet: *const u8, length: usize) -> Issued;
+    fn desk_to_polynomial(sheet: *const u8, length: usize, coordinates: u64) -> Value;
+    fn desk_to_normal(sheet: *const u8, length: usize, element: u64) -> Value;
+    fn desk_list_to_polynomial(
+        sheet: *const u8,
+        length: usize,
+        from: *const u64,
+        from_count: usize,
+        into: *mut u64,
+        into_count: usize,
+    ) -> Value;
+    fn desk_list_to_normal(
+        sheet: *const u8,
+        length: usize,
+        from: *const u64,
+        from_count: usize,
+        into: *mut u64,
+        into_count: usize,
+    ) -> Value;
+    fn desk_times(sheet: *const u8, length: usize, a: u64, b: u64) -> Value;
+    fn desk_search(f: u64, first: u64, last: u64) -> Found;
+}
+
+/// `desk_check`: whether f is accepted.
+pub fn check(f: u64) -> Value {
+    // SAFETY: only numbers go over, and every number is a legal argument.
+    unsafe { desk_check(f) }
+}
+
+/// `desk_multiply`: a times b modulo f.
+pub fn multiply(f: u64, a: u64, b: u64) -> Value {
+    // SAFETY: only numbers go over, and every number is a legal argument.
+    unsafe { desk_multiply(f, a, b) }
+}
+
+/// `desk_square`: a times a modulo f.
+pub fn square(f: u64, a: u64) -> Value {
+    // SAFETY: only numbers go over, and every number is a legal argument.
+    unsafe { desk_square(f, a) }
+}
+
+/// `desk_trace`: the sum of the conjugates of a.
+pub fn trace(f: u64, a: u64) -> Value {
+    // SAFETY: only numbers go over, and every number is a legal argument.
+    unsafe { desk_trace(f, a) }
+}
+
+/// `desk_build`: writes a sheet into the first 32n bytes of the buffer.
+pub fn build(f: u64, element: u64, buffer: &mut [u8]) -> Issued {
+    // SAFETY: the buffer is lent for writing over its whole length. An empty
+    // one is a dangling pointer, which is not followed at length 0.
+    unsafe { desk_build(f, element, buffer.as_mut_ptr(), buffer.len()) }
+}
+
+/// `desk_read`: whether the sheet is one that building writes.
+pub fn read(sheet: &[u8]) -> Issued {
+    // SAFETY: the sheet is lent for reading over its whole length. An empty
+    // one is a dangling pointer, which is not followed at length 0.
+    unsafe { desk_read(sheet.as_ptr(), sheet.len()) }
+}
+
+/// `desk_to_polynomial`: the element of normal coordinates.
+pub fn to_polynomial(sheet: &[u8], coordinates: u64) -> Value {
+    // SAFETY: as in `read`.
+    unsafe { desk_to_polynomial(sheet.as_ptr(), sheet.len(), coordinates) }
+}
+
+/// `desk_to_normal`: the normal coordinates of an element.
+pub fn to_normal(sheet: &[u8], element: u64) -> Value {
+    // SAFETY: as in `read`.
+    unsafe { desk_to_normal(sheet.as_ptr(), sheet.len(), element) }
+}
+
+/// `desk_list_to_polynomial`: `into` gets the element of each value of `from`.
+pub fn list_to_polynomial(sheet: &[u8], from: &[u64], into: &mut [u64]) -> Value {
+    // SAFETY: each of the three goes over with its own length, the first two
+    // for reading, the last for writing; as slices they do not overlap `into`.
+    // An empty one is a dangling pointer, which is not followed at length 0.
+    unsafe {
+        desk_list_to_polynomial(
+            sheet.as_ptr(),
+            sheet.len(),
+            from.as_ptr(),
+            from.len(),
+            into.as_mut_ptr(),
+            into.len(),
+        )
+    }
+}
+
+/// `desk_list_to_normal`: `into` gets the coordinates of each value of `from`.
+pub fn list_to_normal(sheet: &[u8], from: &[u64], into: &mut [u64]) -> Value {
+    // SAFETY: as in `list_to_polynomial`.
+    unsafe {
+        desk_list_to_normal(
+            sheet.as_ptr(),
+            sheet.len(),
+            from.as_ptr(),
+            from.len(),
+            into.as_mut_ptr(),
+            into.len(),
+        )
+    }
+}
+
+/// `desk_times`: the product of normal coordinates.
+pub fn times(sheet: &[u8], a: u64, b: u64) -> Value {
+    // SAFETY: as in `read`.
+    unsafe { desk_times(sheet.as_ptr(), sheet.len(), a, b) }
+}
+
+/// `desk_search`: the best normal leader from first to last.
+pub fn search(f: u64, first: u64, last: u64) -> Found {
+    // SAFETY: only numbers go over, and every number is a legal argument.
+    unsafe { desk_search(f, first, last) }
+}
