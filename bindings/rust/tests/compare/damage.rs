@@ -1,0 +1,156 @@
+//! Sheets that no builder wrote, made from one that it did.
+//!
+//! A field of a record is named by its first byte and its length, as in
+//! document 01's table of the sheet file.
+
+use crate::random::Random;
+
+/// The length of a record.
+pub const RECORD: usize = 32;
+
+/// A field of a record: first byte and length.
+#[derive(Clone, Copy)]
+pub struct Part {
+    pub first: usize,
+    pub length: usize,
+}
+
+/// Degree, row number, f without its term x^n, and the three rows.
+pub const PARTS: [Part; 6] = [
+    Part {
+        first: 0,
+        length: 1,
+    },
+    Part {
+        first: 1,
+        length: 1,
+    },
+    Part {
+        first: 2,
+        length: 6,
+    },
+    Part {
+        first: 8,
+        length: 8,
+    },
+    Part {
+        first: 16,
+        length: 8,
+    },
+    Part {
+        first: 24,
+        length: 8,
+    },
+];
+
+/// The field with f.
+pub const TAIL: Part = PARTS[2];
+
+/// The field with the conjugate row.
+pub const CONJUGATE: Part = PARTS[3];
+
+/// Puts a number into a field of a record.
+pub fn put(sheet: &mut [u8], record: usize, part: Part, number: u64) {
+    let start = RECORD * record + part.first;
+    let bytes = number.to_le_bytes();
+    sheet[start..start + part.length].copy_from_slice(&bytes[..part.length]);
+}
+
+/// Turns one bit of a sheet over.
+pub fn flip(sheet: &mut [u8], bit: usize) {
+    sheet[bit / 8] ^= 1 << (bit % 8);
+}
+
+/// Turns one bit of a field over.
+pub fn flip_in(sheet: &mut [u8], record: usize, part: Part, random: &mut Random) {
+    let bit = random.index(8 * part.length);
+    flip(sheet, 8 * (RECORD * record + part.first) + bit);
+}
+
+/// Puts a number of 2^n or more into a field of f or of a row.
+pub fn enlarge(sheet: &mut [u8], record: usize, part: Part, n: u32, random: &mut Random) {
+    let bits = 8 * part.length as u32;
+    if n < bits {
+        let high = 1 << (n + random.below(u64::from(bits - n)) as u32);
+        put(sheet, record, part, high + random.below(high));
+    }
+}
+
+/// The sheet with its records in this order.
+pub fn arrange(sheet: &[u8], order: &[usize]) -> Vec<u8> {
+    let record = |i: &usize| &sheet[RECORD * i..RECORD * (i + 1)];
+    order.iter().flat_map(record).copied().collect()
+}
+
+/// Makes degrees and row numbers fit the records as they stand.
+pub fn renumber(sheet: &mut [u8]) {
+    let count = sheet.len() / RECORD;
+    for i in 0..count {
+        sheet[RECORD * i] = count as u8;
+        sheet[RECORD * i + 1] = i as u8;
+    }
+}
+
+/// Puts the same f into all records.
+pub fn refound(sheet: &mut [u8], tail: u64) {
+    for i in 0..sheet.len() / RECORD {
+        put(sheet, i, TAIL, tail);
+    }
+}
+
+/// A sheet with right heads and any rows below 2^n.
+pub fn invented(n: u32, tail: u64, random: &mut Random) -> Vec<u8> {
+    let mut sheet = vec![0; RECORD * n as usize];
+    renumber(&mut sheet);
+    refound(&mut sheet, tail);
+    for i in 0..n as usize {
+        for part in &PARTS[3..] {
+            put(&mut sheet, i, *part, random.element(n));
+        }
+    }
+    sheet
+}
+
+/// Records lost, doubled, swapped and moved around.
+pub fn rearranged(sheet: &[u8], random: &mut Random) -> Vec<Vec<u8>> {
+    let count = sheet.len() / RECORD;
+    let (i, j) = (random.index(count), random.index(count));
+    let whole: Vec<usize> = (0..count).collect();
+    let mut lost = whole.clone();
+    lost.remove(i);
+    let mut doubled = whole.clone();
+    doubled.insert(i, i);
+    let mut overwritten = whole.clone();
+    overwritten[i] = j;
+    let mut swapped = whole.clone();
+    swapped.swap(i, j);
+    let mut moved = whole.clone();
+    moved.rotate_left(1);
+    let turned: Vec<usize> = whole.iter().rev().copied().collect();
+    let orders = [lost, doubled, overwritten, swapped, moved, turned];
+    orders.iter().map(|order| arrange(sheet, order)).collect()
+}
+
+/// A sheet with one to three faults of any kind.
+pub fn damaged(sheet: &[u8], random: &mut Random) -> Vec<u8> {
+    let mut sheet = sheet.to_vec();
+    let count = sheet.len() / RECORD;
+    for _ in 0..=random.below(3) {
+        let record = random.index(count);
+        match random.below(4) {
+            0 => {
+                let part = random.pick(&PARTS);
+                flip_in(&mut sheet, record, part, random);
+            }
+            1 => {
+                let part = random.pick(&PARTS[2..]);
+                enlarge(&mut sheet, record, part, count as u32, random);
+            }
+            _ => {
+                let part = random.pick(&PARTS[3..]);
+                put(&mut sheet, record, part, random.element(count as u32));
+            }
+        }
+    }
+    sheet
+}

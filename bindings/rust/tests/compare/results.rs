@@ -1,0 +1,116 @@
+//! The crate's results: each says what the flat answer of the same call says.
+//!
+//! The other groups hold the flat answers against `plain`; here the way from a
+//! flat answer to a result, a [`Refusal`] and a [`Sheet`] is tried.
+
+use crate::damage::damaged;
+use crate::fields::{Field, Fields};
+use crate::pair::Pair;
+use crate::random::Random;
+use sabrentuglio::{raw, Refusal, Sheet};
+use std::fmt::Debug;
+
+/// Runs the group.
+pub fn run(_: &mut Pair, random: &mut Random, fields: &Fields) {
+    for field in fields.all() {
+        for f in field.polynomials().iter().chain(&field.divided) {
+            polynomials(random, *f, field.n);
+        }
+        sheets(random, field);
+        owned(random, field);
+    }
+}
+
+/// Holds a result against number, place and value of the flat answer.
+fn same<T: PartialEq + Debug>(
+    result: Result<T, Refusal>,
+    (number, place): (u64, u64),
+    value: impl FnOnce(&T) -> bool,
+    inputs: &[u64],
+) {
+    let fits = match &result {
+        Ok(done) => number == 0 && value(done),
+        Err(refusal) => refusal.number() == number && refusal.place as u64 == place,
+    };
+    assert!(fits, "{:?} for {:?}: flat {}", result, inputs, number);
+}
+
+fn polynomials(random: &mut Random, f: u64, n: u32) {
+    let (a, b) = (random.operand(n), random.operand(n));
+    let flat = raw::check(f);
+    let result = sabrentuglio::check(f);
+    same(result, (flat.number, flat.place), |_| true, &[f]);
+    let flat = raw::multiply(f, a, b);
+    let result = sabrentuglio::multiply(f, a, b);
+    let at = (flat.number, flat.place);
+    same(result, at, |v| *v == flat.value, &[f, a, b]);
+    let flat = raw::square(f, a);
+    let result = sabrentuglio::square(f, a);
+    let at = (flat.number, flat.place);
+    same(result, at, |v| *v == flat.value, &[f, a]);
+    let flat = raw::trace(f, a);
+    let result = sabrentuglio::trace(f, a);
+    let at = (flat.number, flat.place);
+    same(result, at, |v| *v == flat.value, &[f, a]);
+    let last = a.wrapping_add(random.below(8)).wrapping_sub(2);
+    let flat = raw::search(f, a, last);
+    let result = sabrentuglio::search(f, a, last);
+    let whole = (flat.element, flat.complexity, flat.grade, flat.count);
+    let best = |best: &Option<sabrentuglio::Best>| match best {
+        Some(b) => (b.element, b.complexity, b.grade.number(), b.count) == whole,
+        None => flat.found == 0,
+    };
+    same(result, (flat.number, 0), best, &[f, a, last]);
+}
+
+fn sheets(random: &mut Random, field: &Field) {
+    let sheet = match random.once_in(2) {
+        true => field.any(random).sheet.clone(),
+        false => damaged(&field.any(random).sheet, random),
+    };
+    let (a, b) = (random.operand(field.n), random.operand(field.n));
+    let flat = raw::to_polynomial(&sheet, a);
+    let result = sabrentuglio::to_polynomial(&sheet, a);
+    let at = (flat.number, flat.place);
+    same(result, at, |v| *v == flat.value, &[a]);
+    let flat = raw::to_normal(&sheet, a);
+    let result = sabrentuglio::to_normal(&sheet, a);
+    let at = (flat.number, flat.place);
+    same(result, at, |v| *v == flat.value, &[a]);
+    let flat = raw::times(&sheet, a, b);
+    let result = sabrentuglio::times(&sheet, a, b);
+    let at = (flat.number, flat.place);
+    same(result, at, |v| *v == flat.value, &[a, b]);
+    let flat = raw::read(&sheet);
+    let at = (flat.number, flat.place);
+    let whole = (flat.degree, flat.complexity, flat.grade);
+    let result = sabrentuglio::read(&sheet);
+    let fits = |s: &sabrentuglio::Summary| (s.degree, s.complexity, s.grade.number()) == whole;
+    same(result, at, fits, &[]);
+    let result = Sheet::read(&sheet[..]);
+    same(result, at, |s| fits(&s.summary()), &[]);
+}
+
+/// A sheet that owns its bytes does what the calls do on them.
+fn owned(random: &mut Random, field: &Field) {
+    let basis = field.any(random);
+    let sheet = Sheet::build(basis.f, basis.element).expect("the element is normal");
+    assert_eq!(sheet.as_bytes(), basis.sheet);
+    assert_eq!(
+        (sheet.polynomial(), sheet.element()),
+        (basis.f, basis.element)
+    );
+    let from = random.elements(field.n, 20);
+    let there = sheet.list_to_normal(&from).expect("all are elements");
+    let back = sheet.list_to_polynomial(&there);
+    assert_eq!(back.as_ref(), Ok(&from));
+    for (element, coordinates) in from.iter().zip(there) {
+        assert_eq!(sheet.to_normal(*element), Ok(coordinates));
+        assert_eq!(sheet.to_polynomial(coordinates), Ok(*element));
+        let square = plain::square(basis.f, *element).value;
+        let twice = sheet.times(coordinates, coordinates);
+        assert_eq!(twice.and_then(|v| sheet.to_polynomial(v)), Ok(square));
+    }
+    let refusal = sheet.list_to_normal(&[0, 1 << field.n]).unwrap_err();
+    assert_eq!((refusal.number(), refusal.place), (4, 1));
+}

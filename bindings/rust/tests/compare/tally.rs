@@ -1,0 +1,105 @@
+//! What was met: for each call how often it was done and how often each number
+//! refused it. [`Tally::close`] prints the table and says whether it is full.
+
+/// The twelve calls, in the order of the table.
+#[derive(Clone, Copy, Debug)]
+pub enum Call {
+    Check,
+    Multiply,
+    Square,
+    Trace,
+    Build,
+    Read,
+    ToPolynomial,
+    ToNormal,
+    ListToPolynomial,
+    ListToNormal,
+    Times,
+    Search,
+}
+
+/// The name of each call and document 01's order of its refusals.
+const ORDERS: [(&str, &[usize]); 12] = [
+    ("check", &[1, 2, 3]),
+    ("multiply", &[1, 4]),
+    ("square", &[1, 4]),
+    ("trace", &[1, 4, 2, 3]),
+    ("build", &[1, 4, 6, 2, 3, 5]),
+    ("read", &[7, 8, 9, 2, 3, 5, 10]),
+    ("to_polynomial", &[7, 8, 9, 4]),
+    ("to_normal", &[7, 8, 9, 4]),
+    ("list_to_polynomial", &[7, 8, 9, 11, 4]),
+    ("list_to_normal", &[7, 8, 9, 11, 4]),
+    ("times", &[7, 8, 9, 4]),
+    ("search", &[1, 4, 12, 2, 3]),
+];
+
+/// Refusal 3 is in the table, but an f without divisors always returns x.
+const NEVER: usize = 3;
+
+/// How often each of the other numbers is to be met at least.
+const OFTEN: u64 = 50;
+
+/// Counts for each call: done, then the twelve numbers.
+#[derive(Default)]
+pub struct Tally {
+    counts: [[u64; 13]; 12],
+}
+
+impl Tally {
+    /// Counts an answer.
+    pub fn count(&mut self, call: Call, number: u64) {
+        self.counts[call as usize][number as usize] += 1;
+    }
+
+    /// All answers so far.
+    pub fn total(&self) -> u64 {
+        self.counts.iter().flatten().sum()
+    }
+
+    /// How often a number was met, over all calls; 0 is done.
+    fn met(&self, number: usize) -> u64 {
+        self.counts.iter().map(|row| row[number]).sum()
+    }
+
+    /// Prints the table and holds it against what has to be met.
+    pub fn close(&self) {
+        self.print();
+        for number in (1..=12).filter(|number| *number != NEVER) {
+            let met = self.met(number);
+            assert!(met >= OFTEN, "refusal {} met {} times", number, met);
+        }
+        assert_eq!(self.met(NEVER), 0, "refusal 3 was met");
+        for ((name, order), row) in ORDERS.iter().zip(&self.counts) {
+            assert!(row[0] > 0, "{} was never done", name);
+            for number in order.iter().filter(|number| **number != NEVER) {
+                assert!(row[*number] > 0, "{} never refused {}", name, number);
+            }
+        }
+    }
+
+    fn print(&self) {
+        print!("{:<20}{:>8}", "call", "done");
+        (1..=12).for_each(|number| print!("{:>7}", number));
+        println!();
+        for ((name, order), row) in ORDERS.iter().zip(&self.counts) {
+            print!("{:<20}{:>8}", name, row[0]);
+            for (number, count) in row.iter().enumerate().skip(1) {
+                match (order.contains(&number), count) {
+                    (false, 0) => print!("{:>7}", "."),
+                    _ => print!("{:>7}", count),
+                }
+            }
+            println!();
+        }
+        print!("{:<20}{:>8}", "all", self.met(0));
+        (1..=12).for_each(|number| print!("{:>7}", self.met(number)));
+        println!();
+        for number in 1..=12 {
+            match number {
+                NEVER => println!("refusal 3: no polynomial earns it"),
+                _ => println!("refusal {}: met {} times", number, self.met(number)),
+            }
+        }
+    }
+}
