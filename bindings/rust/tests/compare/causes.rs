@@ -8,7 +8,7 @@ use crate::random::Random;
 
 /// Runs the group.
 pub fn run(pair: &mut Pair, random: &mut Random, fields: &Fields) {
-    for _ in 0..4000 {
+    for _ in 0..15_000 {
         on_polynomials(pair, random, fields);
         on_sheets(pair, random, fields);
     }

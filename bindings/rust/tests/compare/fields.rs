@@ -18,7 +18,8 @@ pub struct Basis {
 /// One degree.
 pub struct Field {
     pub n: u32,
-    /// Accepted: the smallest as a number, the largest, and one in between.
+    /// Of accepted polynomials: the smallest as a number, the largest, one in
+    /// between, and those with a basis of complexity 2n-1 that are known.
     pub bases: Vec<Basis>,
     /// Polynomials of this degree that some polynomial divides.
     pub divided: Vec<u64>,
@@ -40,68 +41,31 @@ fn product(a: u64, b: u64) -> u64 {
         .fold(0, |sum, i| sum ^ a << i)
 }
 
+/// Any accepted polynomial of degree m.
+fn any_accepted(m: u32, random: &mut Random) -> u64 {
+    match m {
+        // The desk starts at degree 2; below it every polynomial is without divisors.
+        1 => 2 + random.below(2),
+        _ => loop {
+            let f = polynomial(m, random);
+            if accepted(f) {
+                return f;
+            }
+        },
+    }
+}
+
 impl Fields {
     /// Finds polynomials, elements and sheets of every degree.
     pub fn find(random: &mut Random) -> Fields {
-        let mut fields = Fields { fields: Vec::new() };
-        for n in DEGREES {
-            let field = fields.next(n, random);
-            fields.fields.push(field);
-        }
-        fields
-    }
-
-    /// The field of degree n, once those below stand.
-    fn next(&self, n: u32, random: &mut Random) -> Field {
-        let size = 1u64 << n;
-        let between = size + random.element(n);
-        let smallest = (size..).find(|f| accepted(*f));
-        let largest = (size..2 * size).rev().find(|f| accepted(*f));
-        let middle = (between..2 * size)
-            .chain(size..between)
-            .find(|f| accepted(*f));
-        let found = [smallest, largest, middle];
-        let bases = found.into_iter().flatten().map(|f| basis(f, n, random));
-        Field {
-            n,
-            bases: bases.collect(),
-            divided: self.divided(n, random),
-        }
-    }
-
-    /// Polynomials of degree n with divisors of several kinds.
-    fn divided(&self, n: u32, random: &mut Random) -> Vec<u64> {
-        let size = 1u64 << n;
-        // Divided by x; by x + 1; nothing but powers of x; all ones, or one less.
-        let even = size + 2 * random.element(n - 1);
-        let by_x_plus_1 = product(size / 2 + random.element(n - 1), 3);
-        let mut all = vec![even, by_x_plus_1, size, 2 * size - 2];
-        if n % 2 == 0 {
-            // A square whose root is accepted where there is one of half the degree.
-            let half = n / 2;
-            let root = match self.get(half) {
-                Some(field) => random.pick(&field.polynomials()),
-                None => 3,
-            };
-            all.push(product(root, root));
-        }
-        if n >= 4 {
-            // Two accepted factors, so that no small polynomial divides.
-            let low = 2 + random.below(u64::from(n) - 3) as u32;
-            let factors = [low, n - low].map(|m| self.get(m).expect("it is below n"));
-            let [a, b] = factors.map(|field| random.pick(&field.polynomials()));
-            all.push(product(a, b));
-        }
-        all
-    }
-
-    fn get(&self, n: u32) -> Option<&Field> {
-        self.fields.iter().find(|field| field.n == n)
+        let fields = DEGREES.map(|n| field(n, random)).collect();
+        Fields { fields }
     }
 
     /// The field of a degree, 2 to 46.
     pub fn of(&self, n: u32) -> &Field {
-        self.get(n).expect("every degree has its field")
+        let field = self.fields.iter().find(|field| field.n == n);
+        field.expect("every degree has its field")
     }
 
     /// All fields, by degree.
@@ -127,13 +91,69 @@ impl Field {
     }
 }
 
+/// Finds what is needed of degree n.
+fn field(n: u32, random: &mut Random) -> Field {
+    let size = 1u64 << n;
+    let between = size + random.element(n);
+    let smallest = (size..).find(|f| accepted(*f));
+    let largest = (size..2 * size).rev().find(|f| accepted(*f));
+    let middle = (between..2 * size)
+        .chain(size..between)
+        .find(|f| accepted(*f));
+    let found = [smallest, largest, middle];
+    let any = found.into_iter().flatten().map(|f| basis(f, n, random));
+    let mut bases: Vec<Basis> = any.collect();
+    let optimal = [2 * size - 1, periods(n)].into_iter();
+    bases.extend(optimal.filter_map(|f| basis_of(f, 2)));
+    Field {
+        n,
+        bases,
+        divided: divided(n, random),
+    }
+}
+
+/// Polynomials of degree n with divisors of several kinds.
+fn divided(n: u32, random: &mut Random) -> Vec<u64> {
+    let size = 1u64 << n;
+    // By x; by x + 1; a power of x; all terms but the last.
+    let even = size + 2 * random.element(n - 1);
+    let by_x_plus_1 = product(size / 2 + random.element(n - 1), 3);
+    let mut all = vec![even, by_x_plus_1, size, 2 * size - 2];
+    // Two factors without divisors, so that mostly no small polynomial divides.
+    let low = 1 + random.below(u64::from(n) - 1) as u32;
+    let (a, b) = (any_accepted(low, random), any_accepted(n - low, random));
+    all.push(product(a, b));
+    for m in (1..n).filter(|m| n % m == 0) {
+        // A power; and factors of one degree, where n squarings return x.
+        let root = any_accepted(m, random);
+        all.push((0..n / m).fold(1, |f, _| product(f, root)));
+        all.push((0..n / m).fold(1, |f, _| product(f, any_accepted(m, random))));
+    }
+    all
+}
+
+/// The polynomial of a sum of a root of unity of order 2n+1 and its inverse.
+/// Where it is accepted, x gives a basis of complexity 2n-1; so it does for the
+/// polynomial with all n+1 terms.
+fn periods(n: u32) -> u64 {
+    let next = |(before, last): (u64, u64), _| (last, last << 1 ^ before);
+    (1..n).fold((1, 3), next).1
+}
+
+/// The sheet of f and an element, where there is one.
+fn basis_of(f: u64, element: u64) -> Option<Basis> {
+    let mut sheet = vec![0; 32 * 46];
+    let answer = plain::build(f, element, &mut sheet);
+    sheet.truncate(32 * answer.degree as usize);
+    let done = answer.number == 0;
+    done.then(|| Basis { f, element, sheet })
+}
+
 /// A normal element of f and their sheet.
 fn basis(f: u64, n: u32, random: &mut Random) -> Basis {
     loop {
-        let element = random.element(n);
-        let mut sheet = vec![0; 32 * n as usize];
-        if plain::build(f, element, &mut sheet).number == 0 {
-            return Basis { f, element, sheet };
+        if let Some(basis) = basis_of(f, random.element(n)) {
+            return basis;
         }
     }
 }

@@ -97,6 +97,19 @@ impl Pair {
         self.settle(call, plain.number, (value(desk), plain), inputs);
     }
 
+    fn settle_issued(
+        &mut self,
+        call: Call,
+        desk: raw::Issued,
+        plain: plain::Issued,
+        inputs: impl FnOnce() -> String,
+    ) {
+        self.settle(call, plain.number, (issued(desk), plain), inputs);
+        if plain.number == 0 {
+            self.tally.count_grade(plain.grade);
+        }
+    }
+
     pub fn check(&mut self, f: u64) {
         let (desk, plain) = (raw::check(f), plain::check(f));
         self.settle_value(Call::Check, desk, plain, || format!("f {}", f));
@@ -129,7 +142,7 @@ impl Pair {
         let desk = raw::build(f, element, lent.write());
         let mut expected = buffer.to_vec();
         let plain = plain::build(f, element, &mut expected);
-        self.settle(Call::Build, plain.number, (issued(desk), plain), inputs);
+        self.settle_issued(Call::Build, desk, plain, inputs);
         if let Some(fault) = lent.fault(&expected) {
             self.fail(Call::Build, &inputs(), &fault);
         }
@@ -148,9 +161,7 @@ impl Pair {
     pub fn read(&mut self, sheet: &[u8]) {
         let desk = self.on_sheet(Call::Read, sheet, raw::read);
         let plain = plain::read(sheet);
-        self.settle(Call::Read, plain.number, (issued(desk), plain), || {
-            format!("sheet {}", hex(sheet))
-        });
+        self.settle_issued(Call::Read, desk, plain, || format!("sheet {}", hex(sheet)));
     }
 
     pub fn to_polynomial(&mut self, sheet: &[u8], coordinates: u64) {
@@ -216,5 +227,10 @@ impl Pair {
         self.settle(Call::Search, plain.number, (found(desk), plain), || {
             format!("f {}, first {}, last {}", f, first, last)
         });
+        match (plain.number, plain.found) {
+            (0, 0) => self.tally.count_nothing(),
+            (0, _) => self.tally.count_grade(plain.grade),
+            _ => (),
+        }
     }
 }

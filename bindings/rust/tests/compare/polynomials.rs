@@ -66,7 +66,7 @@ fn checks(pair: &mut Pair, random: &mut Random, field: &Field) {
         // One term more or less.
         pair.check(f ^ 1 << random.below(u64::from(field.n)));
     }
-    for _ in 0..40 {
+    for _ in 0..200 {
         pair.check(polynomial(field.n, random));
     }
 }

@@ -13,16 +13,17 @@ pub fn run(pair: &mut Pair, random: &mut Random, fields: &Fields) {
     every_bit(pair, random, fields);
     for field in fields.all() {
         good(pair, random, field);
-        let basis = field.any(random);
-        every_field(pair, random, field.n, basis);
-        moved_records(pair, random, basis);
-        other_polynomials(pair, random, field, basis);
-        other_elements(pair, random, field.n, basis);
-        any_rows(pair, random, field);
-        for _ in 0..20 {
-            let sheet = damaged(&basis.sheet, random);
-            ask(pair, random, field.n, &sheet);
+        for basis in &field.bases {
+            every_field(pair, random, field.n, basis);
+            moved_records(pair, random, basis);
+            other_polynomials(pair, random, field, basis);
+            other_elements(pair, random, field.n, basis);
+            for _ in 0..20 {
+                let sheet = damaged(&basis.sheet, random);
+                ask(pair, random, field.n, &sheet);
+            }
         }
+        any_rows(pair, random, field);
     }
 }
 

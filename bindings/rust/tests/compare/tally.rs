@@ -44,12 +44,24 @@ const OFTEN: u64 = 50;
 #[derive(Default)]
 pub struct Tally {
     counts: [[u64; 13]; 12],
+    grades: [u64; 3],
+    nothing: u64,
 }
 
 impl Tally {
     /// Counts an answer.
     pub fn count(&mut self, call: Call, number: u64) {
         self.counts[call as usize][number as usize] += 1;
+    }
+
+    /// Counts the grade of a sheet or of what a search found.
+    pub fn count_grade(&mut self, grade: u64) {
+        self.grades[grade as usize] += 1;
+    }
+
+    /// Counts a search that found nothing.
+    pub fn count_nothing(&mut self) {
+        self.nothing += 1;
     }
 
     /// All answers so far.
@@ -70,6 +82,9 @@ impl Tally {
             assert!(met >= OFTEN, "refusal {} met {} times", number, met);
         }
         assert_eq!(self.met(NEVER), 0, "refusal 3 was met");
+        for met in self.grades.iter().chain([&self.nothing]) {
+            assert!(*met >= OFTEN, "a grade, or nothing, met {} times", met);
+        }
         for ((name, order), row) in ORDERS.iter().zip(&self.counts) {
             assert!(row[0] > 0, "{} was never done", name);
             for number in order.iter().filter(|number| **number != NEVER) {
@@ -97,9 +112,11 @@ impl Tally {
         println!();
         for number in 1..=12 {
             match number {
-                NEVER => println!("refusal 3: no polynomial earns it"),
+                NEVER if self.met(NEVER) == 0 => println!("refusal 3: no polynomial earns it"),
                 _ => println!("refusal {}: met {} times", number, self.met(number)),
             }
         }
+        println!("grades 0, 1, 2: met {:?} times", self.grades);
+        println!("searches that found nothing: {}", self.nothing);
     }
 }
