@@ -25,6 +25,8 @@ fn main() {
         );
         exit(1);
     }
+    // The linker runs elsewhere, so that a relative name would lead astray.
+    let folder = folder.canonicalize().unwrap_or(folder);
     println!("cargo:rustc-link-search=native={}", folder.display());
     println!("cargo:rustc-link-lib=static=capi");
 }

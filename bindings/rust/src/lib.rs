@@ -56,3 +56,8 @@ pub const MAX_DEGREE: usize = 46;
 
 /// The most values of a list.
 pub const MAX_LIST: usize = 4096;
+
+/// The example of the README is run with the others.
+#[cfg(doctest)]
+#[doc = include_str!("../README.md")]
+struct Readme;

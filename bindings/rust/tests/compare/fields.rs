@@ -41,18 +41,20 @@ fn product(a: u64, b: u64) -> u64 {
         .fold(0, |sum, i| sum ^ a << i)
 }
 
+/// How often a search by chance is tried; each try succeeds at least once in
+/// some fifty times, so that only a faulty `plain` uses them up.
+const TRIES: usize = 10_000;
+
 /// Any accepted polynomial of degree m.
 fn any_accepted(m: u32, random: &mut Random) -> u64 {
-    match m {
-        // The desk starts at degree 2; below it every polynomial is without divisors.
-        1 => 2 + random.below(2),
-        _ => loop {
-            let f = polynomial(m, random);
-            if accepted(f) {
-                return f;
-            }
-        },
+    // The desk starts at degree 2; x and x + 1 have no divisors either.
+    if m == 1 {
+        return 2 + random.below(2);
     }
+    let found = (0..TRIES)
+        .map(|_| polynomial(m, random))
+        .find(|f| accepted(*f));
+    found.unwrap_or_else(|| panic!("plain accepts nothing of degree {}", m))
 }
 
 impl Fields {
@@ -151,11 +153,8 @@ fn basis_of(f: u64, element: u64) -> Option<Basis> {
 
 /// A normal element of f and their sheet.
 fn basis(f: u64, n: u32, random: &mut Random) -> Basis {
-    loop {
-        if let Some(basis) = basis_of(f, random.element(n)) {
-            return basis;
-        }
-    }
+    let found = (0..TRIES).find_map(|_| basis_of(f, random.element(n)));
+    found.unwrap_or_else(|| panic!("plain builds no sheet of f {}", f))
 }
 
 /// A polynomial of degree n, any at all, or one of few terms.
