@@ -27,13 +27,21 @@ fn say_meaning(number: u8) {
         1 => say(b"the degree of f is not 2 to 46"),
         2 => say(b"a polynomial of smaller degree, other than 1, divides f"),
         3 => say(b"squaring x as many times as the degree of f does not bring it back"),
-        4 => say(b"an element, a coordinate number or a range end has more bits than the degree; in a list the place is its index"),
+        4 => say(
+            b"an element, a coordinate number or a range end has more bits than the degree; in a list the place is its index",
+        ),
         5 => say(b"the element is not normal"),
         6 => say(b"the buffer is shorter than the sheet"),
         7 => say(b"the sheet's length is not 32 bytes times a count of 2 to 46"),
-        8 => say(b"the record at this place does not fit in: its degree, its row number or its polynomial"),
-        9 => say(b"the record at this place has a polynomial or a row with more bits than the degree"),
-        10 => say(b"the record at this place is not the one that the polynomial and the element give"),
+        8 => say(
+            b"the record at this place does not fit in: its degree, its row number or its polynomial",
+        ),
+        9 => say(
+            b"the record at this place has a polynomial or a row with more bits than the degree",
+        ),
+        10 => say(
+            b"the record at this place is not the one that the polynomial and the element give",
+        ),
         11 => say(b"the lists differ in length or have more than 4096 values"),
         _ => say(b"the first of the range is greater than the last"),
     }

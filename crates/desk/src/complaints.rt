@@ -25,7 +25,9 @@ fn say_word(i: usize) {
 pub fn no_polynomial(i: usize) {
     say(b"desk: ");
     say_word(i);
-    say(b" is no polynomial; write it in decimal (19), in hexadecimal (0x13) or as falling exponents (4:1:0), below 2^64\n");
+    say(
+        b" is no polynomial; write it in decimal (19), in hexadecimal (0x13) or as falling exponents (4:1:0), below 2^64\n",
+    );
 }
 
 // Word i is no number.

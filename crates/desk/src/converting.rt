@@ -51,7 +51,9 @@ fn value_at(goal: Notation, i: usize) -> Word {
 fn values_of(goal: Notation, values: &mut [u64]) -> bool {
     let mut i: usize = 0;
     while i < values.len() {
-        let Word::Number(value) = value_at(goal, i + FIRST_VALUE) else { return false; };
+        let Word::Number(value) = value_at(goal, i + FIRST_VALUE) else {
+            return false;
+        };
         values[i] = value;
         i += 1;
     }

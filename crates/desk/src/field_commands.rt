@@ -11,7 +11,9 @@ pub fn check() {
         wrong_count(b"check F");
         return;
     }
-    let Word::Number(f) = polynomial_at(2) else { return; };
+    let Word::Number(f) = polynomial_at(2) else {
+        return;
+    };
     answer_check(field::check(f));
 }
 
@@ -20,9 +22,15 @@ pub fn multiply() {
         wrong_count(b"multiply F A B");
         return;
     }
-    let Word::Number(f) = polynomial_at(2) else { return; };
-    let Word::Number(a) = polynomial_at(3) else { return; };
-    let Word::Number(b) = polynomial_at(4) else { return; };
+    let Word::Number(f) = polynomial_at(2) else {
+        return;
+    };
+    let Word::Number(a) = polynomial_at(3) else {
+        return;
+    };
+    let Word::Number(b) = polynomial_at(4) else {
+        return;
+    };
     answer_value(field::multiply(f, a, b));
 }
 
@@ -31,8 +39,12 @@ pub fn square() {
         wrong_count(b"square F A");
         return;
     }
-    let Word::Number(f) = polynomial_at(2) else { return; };
-    let Word::Number(a) = polynomial_at(3) else { return; };
+    let Word::Number(f) = polynomial_at(2) else {
+        return;
+    };
+    let Word::Number(a) = polynomial_at(3) else {
+        return;
+    };
     answer_value(field::square(f, a));
 }
 
@@ -41,8 +53,12 @@ pub fn trace() {
         wrong_count(b"trace F A");
         return;
     }
-    let Word::Number(f) = polynomial_at(2) else { return; };
-    let Word::Number(a) = polynomial_at(3) else { return; };
+    let Word::Number(f) = polynomial_at(2) else {
+        return;
+    };
+    let Word::Number(a) = polynomial_at(3) else {
+        return;
+    };
     answer_value(field::trace(f, a));
 }
 
@@ -51,8 +67,14 @@ pub fn search() {
         wrong_count(b"search F FIRST LAST");
         return;
     }
-    let Word::Number(f) = polynomial_at(2) else { return; };
-    let Word::Number(first) = polynomial_at(3) else { return; };
-    let Word::Number(last) = polynomial_at(4) else { return; };
+    let Word::Number(f) = polynomial_at(2) else {
+        return;
+    };
+    let Word::Number(first) = polynomial_at(3) else {
+        return;
+    };
+    let Word::Number(last) = polynomial_at(4) else {
+        return;
+    };
     answer_search(search::search(f, first, last));
 }

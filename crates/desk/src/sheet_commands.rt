@@ -45,8 +45,12 @@ fn put_sheet(usage: &[u8], buffer: &mut [u8; SHEET_ROOM]) -> usize
         wrong_count(usage);
         return 0;
     }
-    let Word::Number(f) = polynomial_at(2) else { return 0; };
-    let Word::Number(element) = polynomial_at(3) else { return 0; };
+    let Word::Number(f) = polynomial_at(2) else {
+        return 0;
+    };
+    let Word::Number(element) = polynomial_at(3) else {
+        return 0;
+    };
     match sheet::build(f, element, buffer) {
         Issued::Refused(refusal) => {
             refuse(refusal);
@@ -75,7 +79,11 @@ pub fn list() {
         wrong_count(b"list SHEET, or desk list < SHEET");
         return;
     }
-    let descriptor = if os::arg_count() == 3 { open_sheet(2) } else { libc::STDIN_FILENO };
+    let descriptor = if os::arg_count() == 3 {
+        open_sheet(2)
+    } else {
+        libc::STDIN_FILENO
+    };
     if descriptor < 0 {
         return;
     }
@@ -89,8 +97,12 @@ pub fn times() {
         wrong_count(b"times SHEET A B");
         return;
     }
-    let Word::Number(a) = number_at(3) else { return; };
-    let Word::Number(b) = number_at(4) else { return; };
+    let Word::Number(a) = number_at(3) else {
+        return;
+    };
+    let Word::Number(b) = number_at(4) else {
+        return;
+    };
     let descriptor = open_sheet(2);
     if descriptor < 0 {
         return;

@@ -65,8 +65,8 @@ Multiplied f a u v p y = (timesReport (sheetOf f a) u v ≡ done p) × (polynomi
 abbrev pub Rejected : (f number : ℕ) → Type 0
 Rejected f k = checkReport f ≡ refused k 0
 
--- ---- the table: its figures are the document's, but for the grades of the sheets of 7 and 19 and the inverse rows of 19 and 9, which the
--- document does not give
+-- ---- the table: its figures are the document's (the grades of the sheets of 19 stand with its searches), but for the grade of the sheet of
+-- 7 and the inverse rows of 19 and 9, which it does not give
 
 pub examples : Issued 7 2 (2 ∷ 3 ∷ []) (3 ∷ 1 ∷ []) (2 ∷ 3 ∷ []) 3 1
     × Refused 7 1 5
