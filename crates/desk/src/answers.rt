@@ -48,7 +48,7 @@ fn say_meaning(number: u8) {
 }
 
 // A refusal: its number, its place and its meaning in words.
-pub fn refuse(refusal: Refusal) {
+pub(crate) fn refuse(refusal: Refusal) {
     say(b"refused ");
     io::print_decimal(STDERR_FILENO, refusal.number as u64);
     say(b" ");
@@ -58,26 +58,26 @@ pub fn refuse(refusal: Refusal) {
     say(b"\n");
 }
 
-pub fn answer_check(answer: Checked) {
+pub(crate) fn answer_check(answer: Checked) {
     match answer {
         Checked::Refused(refusal) => refuse(refusal),
         Checked::Done => put(b"accepted\n"),
     }
 }
 
-pub fn answer_value(answer: Value) {
+pub(crate) fn answer_value(answer: Value) {
     match answer {
         Value::Refused(refusal) => refuse(refusal),
         Value::Done(value) => put_line(value),
     }
 }
 
-pub fn put_line(value: u64) {
+pub(crate) fn put_line(value: u64) {
     put_named(b"", value);
     put(b"\n");
 }
 
-pub fn answer_search(answer: Search) {
+pub(crate) fn answer_search(answer: Search) {
     match answer {
         Search::Refused(number) => refuse(Refusal { number, place: 0 }),
         Search::Nothing => put(b"nothing\n"),

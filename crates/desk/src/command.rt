@@ -1,7 +1,7 @@
 // The commands, and the word that names each.
 use check::same;
 
-pub enum Command {
+pub(crate) enum Command {
     Check,
     Multiply,
     Square,
@@ -52,7 +52,7 @@ fn sheet_command_of(word: &[u8]) -> Command {
 }
 
 // The command that a word names. No word at all asks for help.
-pub fn command_of(word: &[u8]) -> Command {
+pub(crate) fn command_of(word: &[u8]) -> Command {
     if word.len() == 0 {
         return Command::Help;
     }

@@ -22,7 +22,7 @@ fn say_word(i: usize) {
 }
 
 // Word i is no polynomial.
-pub fn no_polynomial(i: usize) {
+pub(crate) fn no_polynomial(i: usize) {
     say(b"desk: ");
     say_word(i);
     say(
@@ -31,14 +31,14 @@ pub fn no_polynomial(i: usize) {
 }
 
 // Word i is no number.
-pub fn no_number(i: usize) {
+pub(crate) fn no_number(i: usize) {
     say(b"desk: ");
     say_word(i);
     say(b" is no number; write it in decimal (19) or in hexadecimal (0x13), below 2^64\n");
 }
 
 // The command was given too few or too many words.
-pub fn wrong_count(usage: &[u8]) {
+pub(crate) fn wrong_count(usage: &[u8]) {
     say(b"desk: ");
     say_word(1);
     say(b" was given too few or too many words; write: desk ");
@@ -46,19 +46,19 @@ pub fn wrong_count(usage: &[u8]) {
     say(b"\n");
 }
 
-pub fn unknown_command() {
+pub(crate) fn unknown_command() {
     say(b"desk: ");
     say_word(1);
     say(b" is no command; desk help lists them\n");
 }
 
 // A list of more values than one call converts.
-pub fn too_many_values() {
+pub(crate) fn too_many_values() {
     say(b"desk: more than 4096 values; give them in several calls\n");
 }
 
 // The sheet's file cannot be opened. The system's own words say why.
-pub fn no_sheet(path: &[u8]) {
+pub(crate) fn no_sheet(path: &[u8]) {
     say(b"desk: cannot open the sheet ");
     os::fail(path);
 }

@@ -102,10 +102,10 @@ fn convert(goal: Notation, usage: &[u8]) {
     }
 }
 
-pub fn normal() {
+pub(crate) fn normal() {
     convert(Notation::Normal, b"normal SHEET VALUE..");
 }
 
-pub fn polynomial() {
+pub(crate) fn polynomial() {
     convert(Notation::Polynomial, b"polynomial SHEET VALUE..");
 }

@@ -6,7 +6,7 @@ use super::complaints::wrong_count;
 use super::input::polynomial_at;
 use words::Word;
 
-pub fn check() {
+pub(crate) fn check() {
     if os::arg_count() != 3 {
         wrong_count(b"check F");
         return;
@@ -17,7 +17,7 @@ pub fn check() {
     answer_check(field::check(f));
 }
 
-pub fn multiply() {
+pub(crate) fn multiply() {
     if os::arg_count() != 5 {
         wrong_count(b"multiply F A B");
         return;
@@ -34,7 +34,7 @@ pub fn multiply() {
     answer_value(field::multiply(f, a, b));
 }
 
-pub fn square() {
+pub(crate) fn square() {
     if os::arg_count() != 4 {
         wrong_count(b"square F A");
         return;
@@ -48,7 +48,7 @@ pub fn square() {
     answer_value(field::square(f, a));
 }
 
-pub fn trace() {
+pub(crate) fn trace() {
     if os::arg_count() != 4 {
         wrong_count(b"trace F A");
         return;
@@ -62,7 +62,7 @@ pub fn trace() {
     answer_value(field::trace(f, a));
 }
 
-pub fn search() {
+pub(crate) fn search() {
     if os::arg_count() != 5 {
         wrong_count(b"search F FIRST LAST");
         return;

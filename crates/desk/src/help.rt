@@ -24,7 +24,7 @@ fn put_commands() {
     put(b"desk help                       this page\n");
 }
 
-pub fn print_help() {
+pub(crate) fn print_help() {
     put_commands();
     put(b"\n");
     put(

@@ -11,19 +11,19 @@ use sheet::RECORD;
 use words::Word;
 
 // Room for a word. No number needs as many bytes, but for zeros in front.
-pub const WORD_ROOM: usize = 256;
+pub(crate) const WORD_ROOM: usize = 256;
 
 // A sheet's room, and one byte by which a longer input shows.
-pub const INPUT_ROOM: usize = RECORD * LIMIT + 1;
+pub(crate) const INPUT_ROOM: usize = RECORD * LIMIT + 1;
 
-pub fn word_space() -> [u8; WORD_ROOM]
+pub(crate) fn word_space() -> [u8; WORD_ROOM]
     ensures { λ r. ⌜ 256 ≡ length r ⌝ }
 {
     [0; WORD_ROOM]
 }
 
 // Word i as a polynomial. Where it is none, a line says so.
-pub fn polynomial_at(i: usize) -> Word {
+pub(crate) fn polynomial_at(i: usize) -> Word {
     let mut space = word_space();
     let size = os::arg(i, &mut space);
     match words::polynomial(&space[..size]) {
@@ -36,7 +36,7 @@ pub fn polynomial_at(i: usize) -> Word {
 }
 
 // Word i as a number. Where it is none, a line says so.
-pub fn number_at(i: usize) -> Word {
+pub(crate) fn number_at(i: usize) -> Word {
     let mut space = word_space();
     let size = os::arg(i, &mut space);
     match words::number(&space[..size]) {
@@ -49,7 +49,7 @@ pub fn number_at(i: usize) -> Word {
 }
 
 // The descriptor of the sheet that word i names, `-` for standard input. Where it cannot be opened, a line says so, and it is -1.
-pub fn open_sheet(i: usize) -> i32 {
+pub(crate) fn open_sheet(i: usize) -> i32 {
     let mut path = io::buffer();
     let size = os::arg(i, &mut path);
     if same(&path[..size], b"-") {

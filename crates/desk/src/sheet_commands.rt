@@ -60,13 +60,13 @@ fn put_sheet(usage: &[u8], buffer: &mut [u8; SHEET_ROOM]) -> usize
     }
 }
 
-pub fn build() {
+pub(crate) fn build() {
     let mut buffer = [0u8; SHEET_ROOM];
     let size = put_sheet(b"build F ELEMENT", &mut buffer);
     io::write_all(STDOUT_FILENO, &buffer[..size]);
 }
 
-pub fn show() {
+pub(crate) fn show() {
     let mut buffer = [0u8; SHEET_ROOM];
     let size = put_sheet(b"show F ELEMENT", &mut buffer);
     if size > 0 {
@@ -74,7 +74,7 @@ pub fn show() {
     }
 }
 
-pub fn list() {
+pub(crate) fn list() {
     if os::arg_count() > 3 {
         wrong_count(b"list SHEET, or desk list < SHEET");
         return;
@@ -92,7 +92,7 @@ pub fn list() {
     list_bytes(&bytes[..size]);
 }
 
-pub fn times() {
+pub(crate) fn times() {
     if os::arg_count() != 5 {
         wrong_count(b"times SHEET A B");
         return;

@@ -15,7 +15,7 @@ fn print_check(words: &[u8], f: u64) {
     }
 }
 
-pub fn run() {
+pub(crate) fn run() {
     print_check(b"f = 5: ", 5);
     print_check(b"f = 3: ", 3);
     print_check(b"f = 2^46 + 3: ", (1u64 << 46) + 3);

@@ -43,7 +43,7 @@ fn print_least() {
     }
 }
 
-pub fn run() {
+pub(crate) fn run() {
     say(b"least complexities, source document 000: degree, complexity\n");
     print_least();
 }

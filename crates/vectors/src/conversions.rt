@@ -26,7 +26,7 @@ fn print_product(sheet: &[u8], a: u64, b: u64) {
     }
 }
 
-pub fn run() {
+pub(crate) fn run() {
     let mut sheet = [0u8; 3 * RECORD];
     sheet::build(11, 3, &mut sheet);
     print_coordinates(&sheet, 6);

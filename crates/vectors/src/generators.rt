@@ -181,7 +181,7 @@ fn print_generators() {
     }
 }
 
-pub fn run() {
+pub(crate) fn run() {
     say(b"generators of table 5, source document 001: degree, complexity\n");
     print_generators();
 }

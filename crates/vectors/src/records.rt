@@ -48,7 +48,7 @@ fn print_rest(sheet: &[u8; THREE]) {
     print_reading(&whole[RECORD..]);
 }
 
-pub fn run() {
+pub(crate) fn run() {
     let mut two = [0u8; TWO];
     sheet::build(7, 2, &mut two);
     say(b"sheet of 7 and 2: record 1 in hex");

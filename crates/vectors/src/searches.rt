@@ -24,7 +24,7 @@ fn print_search(f: u64, first: u64, last: u64) {
     end_line();
 }
 
-pub fn run() {
+pub(crate) fn run() {
     print_search(19, 0, 15);
     print_search(19, 9, 15);
     print_search(19, 10, 15);

@@ -31,7 +31,7 @@ fn print_sheet(f: u64, element: u64, buffer: &mut [u8]) {
 }
 
 // The inverse rows of 19 and 9 and the grade at 7 are not among document 01's numbers: they follow from its definitions.
-pub fn run() {
+pub(crate) fn run() {
     let mut two = [0u8; 2 * RECORD];
     print_sheet(7, 2, &mut two);
     print_sheet(7, 1, &mut two);
