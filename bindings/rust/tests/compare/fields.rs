@@ -97,12 +97,12 @@ impl Field {
 fn field(n: u32, random: &mut Random) -> Field {
     let size = 1u64 << n;
     let between = size + random.element(n);
-    let smallest = (size..).find(|f| accepted(*f));
-    let largest = (size..2 * size).rev().find(|f| accepted(*f));
-    let middle = (between..2 * size)
-        .chain(size..between)
-        .find(|f| accepted(*f));
-    let found = [smallest, largest, middle];
+    let first = |fs: &mut dyn Iterator<Item = u64>| fs.take(TRIES).find(|f| accepted(*f));
+    let found = [
+        first(&mut (size..2 * size)),
+        first(&mut (size..2 * size).rev()),
+        first(&mut (between..2 * size).chain(size..between)),
+    ];
     let any = found.into_iter().flatten().map(|f| basis(f, n, random));
     let mut bases: Vec<Basis> = any.collect();
     let optimal = [2 * size - 1, periods(n)].into_iter();
@@ -148,7 +148,7 @@ fn basis_of(f: u64, element: u64) -> Option<Basis> {
     let answer = plain::build(f, element, &mut sheet);
     sheet.truncate(32 * answer.degree as usize);
     let done = answer.number == 0;
-    done.then(|| Basis { f, element, sheet })
+    done.then_some(Basis { f, element, sheet })
 }
 
 /// A normal element of f and their sheet.

@@ -57,6 +57,8 @@ fn hex(bytes: &[u8]) -> String {
     bytes.iter().map(|byte| format!("{:02x}", byte)).collect()
 }
 
+// The names are those of the calls; asking counts, so that it changes the pair.
+#[allow(clippy::wrong_self_convention)]
 impl Pair {
     pub fn new(seed: u64) -> Pair {
         Pair {

@@ -1,7 +1,7 @@
 //! The crate's results: each says what the flat answer of the same call says.
 //!
-//! The other groups hold the flat answers against `plain`; here the way from a
-//! flat answer to a result, a [`Refusal`] and a [`Sheet`] is tried.
+//! The flat answers are held against `plain` as in the other groups; here the
+//! way from a flat answer to a result, a [`Refusal`] and a [`Sheet`] is tried.
 
 use crate::damage::damaged;
 use crate::fields::{Field, Fields};
@@ -11,12 +11,12 @@ use sabrentuglio::{raw, Refusal, Sheet};
 use std::fmt::Debug;
 
 /// Runs the group.
-pub fn run(_: &mut Pair, random: &mut Random, fields: &Fields) {
+pub fn run(pair: &mut Pair, random: &mut Random, fields: &Fields) {
     for field in fields.all() {
         for f in field.polynomials().iter().chain(&field.divided) {
-            polynomials(random, *f, field.n);
+            polynomials(pair, random, *f, field.n);
         }
-        sheets(random, field);
+        sheets(pair, random, field);
         owned(random, field);
     }
 }
@@ -35,24 +35,29 @@ fn same<T: PartialEq + Debug>(
     assert!(fits, "{:?} for {:?}: flat {}", result, inputs, number);
 }
 
-fn polynomials(random: &mut Random, f: u64, n: u32) {
+fn polynomials(pair: &mut Pair, random: &mut Random, f: u64, n: u32) {
     let (a, b) = (random.operand(n), random.operand(n));
+    pair.check(f);
     let flat = raw::check(f);
     let result = sabrentuglio::check(f);
     same(result, (flat.number, flat.place), |_| true, &[f]);
+    pair.multiply(f, a, b);
     let flat = raw::multiply(f, a, b);
     let result = sabrentuglio::multiply(f, a, b);
     let at = (flat.number, flat.place);
     same(result, at, |v| *v == flat.value, &[f, a, b]);
+    pair.square(f, a);
     let flat = raw::square(f, a);
     let result = sabrentuglio::square(f, a);
     let at = (flat.number, flat.place);
     same(result, at, |v| *v == flat.value, &[f, a]);
+    pair.trace(f, a);
     let flat = raw::trace(f, a);
     let result = sabrentuglio::trace(f, a);
     let at = (flat.number, flat.place);
     same(result, at, |v| *v == flat.value, &[f, a]);
     let last = a.wrapping_add(random.below(8)).wrapping_sub(2);
+    pair.search(f, a, last);
     let flat = raw::search(f, a, last);
     let result = sabrentuglio::search(f, a, last);
     let whole = (flat.element, flat.complexity, flat.grade, flat.count);
@@ -63,24 +68,28 @@ fn polynomials(random: &mut Random, f: u64, n: u32) {
     same(result, (flat.number, 0), best, &[f, a, last]);
 }
 
-fn sheets(random: &mut Random, field: &Field) {
+fn sheets(pair: &mut Pair, random: &mut Random, field: &Field) {
     let sheet = match random.once_in(2) {
         true => field.any(random).sheet.clone(),
         false => damaged(&field.any(random).sheet, random),
     };
     let (a, b) = (random.operand(field.n), random.operand(field.n));
+    pair.to_polynomial(&sheet, a);
     let flat = raw::to_polynomial(&sheet, a);
     let result = sabrentuglio::to_polynomial(&sheet, a);
     let at = (flat.number, flat.place);
     same(result, at, |v| *v == flat.value, &[a]);
+    pair.to_normal(&sheet, a);
     let flat = raw::to_normal(&sheet, a);
     let result = sabrentuglio::to_normal(&sheet, a);
     let at = (flat.number, flat.place);
     same(result, at, |v| *v == flat.value, &[a]);
+    pair.times(&sheet, a, b);
     let flat = raw::times(&sheet, a, b);
     let result = sabrentuglio::times(&sheet, a, b);
     let at = (flat.number, flat.place);
     same(result, at, |v| *v == flat.value, &[a, b]);
+    pair.read(&sheet);
     let flat = raw::read(&sheet);
     let at = (flat.number, flat.place);
     let whole = (flat.degree, flat.complexity, flat.grade);
