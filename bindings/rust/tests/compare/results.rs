@@ -17,6 +17,7 @@ pub fn run(pair: &mut Pair, random: &mut Random, fields: &Fields) {
             polynomials(pair, random, *f, field.n);
         }
         sheets(pair, random, field);
+        lent(random, field);
         owned(random, field);
     }
 }
@@ -35,27 +36,25 @@ fn same<T: PartialEq + Debug>(
     assert!(fits, "{:?} for {:?}: flat {}", result, inputs, number);
 }
 
+fn same_value(result: Result<u64, Refusal>, flat: raw::Value, inputs: &[u64]) {
+    let at = (flat.number, flat.place);
+    same(result, at, |value| *value == flat.value, inputs);
+}
+
 fn polynomials(pair: &mut Pair, random: &mut Random, f: u64, n: u32) {
     let (a, b) = (random.operand(n), random.operand(n));
     pair.check(f);
-    let flat = raw::check(f);
-    let result = sabrentuglio::check(f);
-    same(result, (flat.number, flat.place), |_| true, &[f]);
+    same_value(sabrentuglio::check(f).map(|()| 0), raw::check(f), &[f]);
     pair.multiply(f, a, b);
-    let flat = raw::multiply(f, a, b);
-    let result = sabrentuglio::multiply(f, a, b);
-    let at = (flat.number, flat.place);
-    same(result, at, |v| *v == flat.value, &[f, a, b]);
+    same_value(
+        sabrentuglio::multiply(f, a, b),
+        raw::multiply(f, a, b),
+        &[f, a, b],
+    );
     pair.square(f, a);
-    let flat = raw::square(f, a);
-    let result = sabrentuglio::square(f, a);
-    let at = (flat.number, flat.place);
-    same(result, at, |v| *v == flat.value, &[f, a]);
+    same_value(sabrentuglio::square(f, a), raw::square(f, a), &[f, a]);
     pair.trace(f, a);
-    let flat = raw::trace(f, a);
-    let result = sabrentuglio::trace(f, a);
-    let at = (flat.number, flat.place);
-    same(result, at, |v| *v == flat.value, &[f, a]);
+    same_value(sabrentuglio::trace(f, a), raw::trace(f, a), &[f, a]);
     let last = a.wrapping_add(random.below(8)).wrapping_sub(2);
     pair.search(f, a, last);
     let flat = raw::search(f, a, last);
@@ -75,20 +74,23 @@ fn sheets(pair: &mut Pair, random: &mut Random, field: &Field) {
     };
     let (a, b) = (random.operand(field.n), random.operand(field.n));
     pair.to_polynomial(&sheet, a);
-    let flat = raw::to_polynomial(&sheet, a);
-    let result = sabrentuglio::to_polynomial(&sheet, a);
-    let at = (flat.number, flat.place);
-    same(result, at, |v| *v == flat.value, &[a]);
+    same_value(
+        sabrentuglio::to_polynomial(&sheet, a),
+        raw::to_polynomial(&sheet, a),
+        &[a],
+    );
     pair.to_normal(&sheet, a);
-    let flat = raw::to_normal(&sheet, a);
-    let result = sabrentuglio::to_normal(&sheet, a);
-    let at = (flat.number, flat.place);
-    same(result, at, |v| *v == flat.value, &[a]);
+    same_value(
+        sabrentuglio::to_normal(&sheet, a),
+        raw::to_normal(&sheet, a),
+        &[a],
+    );
     pair.times(&sheet, a, b);
-    let flat = raw::times(&sheet, a, b);
-    let result = sabrentuglio::times(&sheet, a, b);
-    let at = (flat.number, flat.place);
-    same(result, at, |v| *v == flat.value, &[a, b]);
+    same_value(
+        sabrentuglio::times(&sheet, a, b),
+        raw::times(&sheet, a, b),
+        &[a, b],
+    );
     pair.read(&sheet);
     let flat = raw::read(&sheet);
     let at = (flat.number, flat.place);
@@ -98,6 +100,28 @@ fn sheets(pair: &mut Pair, random: &mut Random, field: &Field) {
     same(result, at, fits, &[]);
     let result = Sheet::read(&sheet[..]);
     same(result, at, |s| fits(&s.summary()), &[]);
+}
+
+/// Building and lists through lent memory say and leave the same.
+fn lent(random: &mut Random, field: &Field) {
+    let basis = field.any(random);
+    let element = random.operand(field.n);
+    let mut buffers = [[9; 1472]; 2];
+    let flat = raw::build(basis.f, element, &mut buffers[0]);
+    let result = sabrentuglio::build(basis.f, element, &mut buffers[1]);
+    let whole = (flat.degree, flat.complexity, flat.grade);
+    let fits = |s: &sabrentuglio::Summary| (s.degree, s.complexity, s.grade.number()) == whole;
+    same(result, (flat.number, flat.place), fits, &[basis.f, element]);
+    assert_eq!(buffers[0], buffers[1]);
+    let from = [random.element(field.n), random.operand(field.n)];
+    let (sheet, mut into) = (&basis.sheet, [[9; 2]; 4]);
+    let flat = raw::list_to_normal(sheet, &from, &mut into[0]);
+    let result = sabrentuglio::list_to_normal(sheet, &from, &mut into[1]);
+    same_value(result.map(|()| 0), flat, &from);
+    let flat = raw::list_to_polynomial(sheet, &from, &mut into[2]);
+    let result = sabrentuglio::list_to_polynomial(sheet, &from, &mut into[3]);
+    same_value(result.map(|()| 0), flat, &from);
+    assert_eq!((into[0], into[2]), (into[1], into[3]));
 }
 
 /// A sheet that owns its bytes does what the calls do on them.
