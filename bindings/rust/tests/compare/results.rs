@@ -27,34 +27,47 @@ fn same<T: PartialEq + Debug>(
     result: Result<T, Refusal>,
     (number, place): (u64, u64),
     value: impl FnOnce(&T) -> bool,
-    inputs: &[u64],
+    (call, inputs): (&str, &[u64]),
 ) {
     let fits = match &result {
         Ok(done) => number == 0 && value(done),
         Err(refusal) => refusal.number() == number && refusal.place as u64 == place,
     };
-    assert!(fits, "{:?} for {:?}: flat {}", result, inputs, number);
+    let flat = (number, place);
+    assert!(fits, "{}{:?}: {:?}, flat {:?}", call, inputs, result, flat);
 }
 
-fn same_value(result: Result<u64, Refusal>, flat: raw::Value, inputs: &[u64]) {
+fn same_value(result: Result<u64, Refusal>, flat: raw::Value, asked: (&str, &[u64])) {
     let at = (flat.number, flat.place);
-    same(result, at, |value| *value == flat.value, inputs);
+    same(result, at, |value| *value == flat.value, asked);
 }
 
 fn polynomials(pair: &mut Pair, random: &mut Random, f: u64, n: u32) {
     let (a, b) = (random.operand(n), random.operand(n));
     pair.check(f);
-    same_value(sabrentuglio::check(f).map(|()| 0), raw::check(f), &[f]);
+    same_value(
+        sabrentuglio::check(f).map(|()| 0),
+        raw::check(f),
+        ("check", &[f]),
+    );
     pair.multiply(f, a, b);
     same_value(
         sabrentuglio::multiply(f, a, b),
         raw::multiply(f, a, b),
-        &[f, a, b],
+        ("multiply", &[f, a, b]),
     );
     pair.square(f, a);
-    same_value(sabrentuglio::square(f, a), raw::square(f, a), &[f, a]);
+    same_value(
+        sabrentuglio::square(f, a),
+        raw::square(f, a),
+        ("square", &[f, a]),
+    );
     pair.trace(f, a);
-    same_value(sabrentuglio::trace(f, a), raw::trace(f, a), &[f, a]);
+    same_value(
+        sabrentuglio::trace(f, a),
+        raw::trace(f, a),
+        ("trace", &[f, a]),
+    );
     let last = a.wrapping_add(random.below(8)).wrapping_sub(2);
     pair.search(f, a, last);
     let flat = raw::search(f, a, last);
@@ -64,7 +77,7 @@ fn polynomials(pair: &mut Pair, random: &mut Random, f: u64, n: u32) {
         Some(b) => (b.element, b.complexity, b.grade.number(), b.count) == whole,
         None => flat.found == 0,
     };
-    same(result, (flat.number, 0), best, &[f, a, last]);
+    same(result, (flat.number, 0), best, ("search", &[f, a, last]));
 }
 
 fn sheets(pair: &mut Pair, random: &mut Random, field: &Field) {
@@ -77,19 +90,19 @@ fn sheets(pair: &mut Pair, random: &mut Random, field: &Field) {
     same_value(
         sabrentuglio::to_polynomial(&sheet, a),
         raw::to_polynomial(&sheet, a),
-        &[a],
+        ("to_polynomial", &[a]),
     );
     pair.to_normal(&sheet, a);
     same_value(
         sabrentuglio::to_normal(&sheet, a),
         raw::to_normal(&sheet, a),
-        &[a],
+        ("to_normal", &[a]),
     );
     pair.times(&sheet, a, b);
     same_value(
         sabrentuglio::times(&sheet, a, b),
         raw::times(&sheet, a, b),
-        &[a, b],
+        ("times", &[a, b]),
     );
     pair.read(&sheet);
     let flat = raw::read(&sheet);
@@ -97,9 +110,9 @@ fn sheets(pair: &mut Pair, random: &mut Random, field: &Field) {
     let whole = (flat.degree, flat.complexity, flat.grade);
     let result = sabrentuglio::read(&sheet);
     let fits = |s: &sabrentuglio::Summary| (s.degree, s.complexity, s.grade.number()) == whole;
-    same(result, at, fits, &[]);
+    same(result, at, fits, ("read", &[]));
     let result = Sheet::read(&sheet[..]);
-    same(result, at, |s| fits(&s.summary()), &[]);
+    same(result, at, |s| fits(&s.summary()), ("Sheet::read", &[]));
 }
 
 /// Building and lists through lent memory say and leave the same.
@@ -111,16 +124,17 @@ fn lent(random: &mut Random, field: &Field) {
     let result = sabrentuglio::build(basis.f, element, &mut buffers[1]);
     let whole = (flat.degree, flat.complexity, flat.grade);
     let fits = |s: &sabrentuglio::Summary| (s.degree, s.complexity, s.grade.number()) == whole;
-    same(result, (flat.number, flat.place), fits, &[basis.f, element]);
+    let at = (flat.number, flat.place);
+    same(result, at, fits, ("build", &[basis.f, element]));
     assert_eq!(buffers[0], buffers[1]);
     let from = [random.element(field.n), random.operand(field.n)];
     let (sheet, mut into) = (&basis.sheet, [[9; 2]; 4]);
     let flat = raw::list_to_normal(sheet, &from, &mut into[0]);
     let result = sabrentuglio::list_to_normal(sheet, &from, &mut into[1]);
-    same_value(result.map(|()| 0), flat, &from);
+    same_value(result.map(|()| 0), flat, ("list_to_normal", &from));
     let flat = raw::list_to_polynomial(sheet, &from, &mut into[2]);
     let result = sabrentuglio::list_to_polynomial(sheet, &from, &mut into[3]);
-    same_value(result.map(|()| 0), flat, &from);
+    same_value(result.map(|()| 0), flat, ("list_to_polynomial", &from));
     assert_eq!((into[0], into[2]), (into[1], into[3]));
 }
 
