@@ -1,0 +1,93 @@
+-- `rows::by_bytes::byte_table` meets its contract. The loop's invariant: the table holds the sums of the first t rows (`tabled`). The measure is
+-- the number of rows to come. Assumes nothing.
+use mathlib.Core.Path.{_≡_, refl, sym, ap, _∙_}
+use Prim.Native.Nat.{ℕ, _-_, _*_, _≤_}
+use native.Mathlib.Omega.{arith}
+use lib.ListN.{getD, set, drop}
+use lib.Pow.{pow-mono}
+use lib.Seq.{getD-drop}
+use Rattle.rows.specs.Doubling.{tabled, tabled-turn}
+use Rattle.rows.proofs.by_bytes.byte_table.Statement.{statement}
+use Rattle.rows.proofs.by_bytes.byte_table.Tie as tie
+
+abbrev Inv-loop : tie.InvT-loop
+Inv-loop rows j sums₀ at t₀ sums t = (t ≤ 8) × (sums ≡ tabled t (256 * j) (drop (8 * j) rows) sums₀)
+
+abbrev μ-loop : tie.MeasureT-loop
+μ-loop rows j sums₀ at t₀ sums t = 8 - t
+
+-- a row is left, and so the table is at most half full
+tight : (c : tie.In-loop Inv-loop μ-loop) → c .before .loop .t ≤ 7
+tight c = omega (arith, c .loop-test .taken)
+
+mul-at : tie.Need-mul-at Inv-loop μ-loop
+mul-at c = omega arith
+
+mul-sums : tie.Need-mul-sums Inv-loop μ-loop
+mul-sums c = omega arith
+
+element-write-sums : tie.Need-element-write-sums Inv-loop μ-loop
+element-write-sums c = omega arith
+
+loop-holds : tie.Need-loop-holds Inv-loop μ-loop
+unfolding tabled
+loop-holds c = (omega arith, refl)
+
+power-requires : tie.Need-power-requires Inv-loop μ-loop
+power-requires c κs = omega arith
+
+mul-row-at : tie.Need-mul-row-at Inv-loop μ-loop
+mul-row-at c = omega arith
+
+add-row-at : tie.Need-add-row-at Inv-loop μ-loop
+add-row-at c = omega arith
+
+row-at-requires : tie.Need-row-at-requires Inv-loop μ-loop
+row-at-requires c κs = omega arith
+
+double-requires : tie.Need-double-requires Inv-loop μ-loop
+double-requires c κs =
+    let i = c .before .before .before in
+    let s = i .before .before in
+    omega (arith, s .pre .0, c .before .power .ensures, pow-mono (tight i))
+
+add-t : tie.Need-add-t Inv-loop μ-loop
+add-t c = omega arith
+
+loop-less : tie.Need-loop-less Inv-loop μ-loop
+loop-less c = omega arith
+
+loop-again : tie.Need-loop-again Inv-loop μ-loop
+loop-again c =
+    let q = c .before in
+    let l = q .before .before .before .before in
+    let s = l .before .args in
+    let row : q .row-at .result ≡ getD (drop (8 * s .j) (s .rows .now)) (l .loop .t) 0 = q .row-at .ensures ∙ sym (getD-drop (8 * s .j) (s .rows .now) (l .loop .t) 0) in
+    (omega arith, tabled-turn (256 * s .j) (drop (8 * s .j) (s .rows .now)) (set (s .sums .now) (256 * s .j) 0) (l .loop .t) (l .loop .sums) _ (q .before .power .result) (q .row-at .result) (q .before .power .ensures) row (l .loop .inv .1) (c .double .ensures))
+
+returns : tie.Need-returns Inv-loop μ-loop
+returns c =
+    let l = c .before in
+    let s = l .before .args in
+    let e : l .loop .t ≡ 8 = omega arith in
+    l .loop .inv .1 ∙ ap (λ (t : ℕ). tabled t (256 * s .j) (drop (8 * s .j) (s .rows .now)) (set (s .sums .now) (256 * s .j) 0)) e
+
+pub byte-table-spec : {M : Type 1} → statement M
+byte-table-spec =
+    tie.close
+    (tie.spec
+    Inv-loop
+    μ-loop
+    mul-at
+    mul-sums
+    element-write-sums
+    loop-holds
+    power-requires
+    mul-row-at
+    add-row-at
+    row-at-requires
+    double-requires
+    add-t
+    loop-less
+    loop-again
+    returns)

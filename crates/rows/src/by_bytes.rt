@@ -1,0 +1,71 @@
+// Sums of rows by bytes: the 256 sums that a byte can pick are laid down for each eight rows, and a number then picks its sum by one lookup
+// for each of its bytes. Where many numbers pick among the same rows this is several times faster than `sum`.
+ghost use mathlib.Core.Path.{_≡_};
+ghost use Prim.Native.Nat.{_+_, _*_, _≤_, _<_};
+ghost use lib.ListN.{length, getD, set, drop};
+ghost use Rattle.gf2.specs.Limit.{limit};
+ghost use Rattle.rows.specs.ByteSums.{bytes, byteSums, pickedBytes};
+ghost use Rattle.rows.specs.Doubling.{doubled, tabled};
+use super::bits::power;
+use gf2::LIMIT;
+
+// The bytes of a number below 2^LIMIT, and so the tables of a matrix. The specs have it as `bytes`.
+const BYTES: usize = 6;
+
+// The entries of all tables.
+pub const BYTE_SUMS: usize = 256 * BYTES;
+
+// Row i, which is 0 past the last.
+fn row_at(rows: &[u64; LIMIT], i: usize) -> u64
+    requires { ⌜ length (now rows) ≡ limit ⌝ }
+    ensures { λ r. ⌜ r ≡ getD (now (rows .entry)) i 0 ⌝ }
+{
+    if i < LIMIT { rows[i] } else { 0 }
+}
+
+// The count entries from place at on are copied behind themselves, with the row added.
+fn double(sums: &mut [u64; BYTE_SUMS], at: usize, count: usize, row: u64)
+    requires { ⌜ at + count + count ≤ 256 * bytes ⌝ }
+    ensures { λ r. ⌜ now (sums .exit) ≡ doubled count at count row (now (sums .entry)) ⌝ }
+{
+    for b in 0..count {
+        sums[at + count + b] = sums[at + b] ^ row;
+    }
+}
+
+// Table j: the sums that a byte picks of the eight rows from 8 * j on.
+fn byte_table(rows: &[u64; LIMIT], j: usize, sums: &mut [u64; BYTE_SUMS])
+    requires { ⌜ (j < bytes) × (length (now rows) ≡ limit) ⌝ }
+    ensures { λ r. ⌜ now (sums .exit) ≡ tabled 8 (256 * j) (drop (8 * j) (now (rows .entry))) (set (now (sums .entry)) (256 * j) 0) ⌝ }
+{
+    let at = 256 * j;
+    sums[at] = 0;
+    for t in 0..8 {
+        double(sums, at, power(t) as usize, row_at(rows, 8 * j + t));
+    }
+}
+
+// All tables of a matrix, one exclusive or for each entry.
+pub fn byte_sums(rows: [u64; LIMIT]) -> [u64; BYTE_SUMS]
+    ensures { λ r. ⌜ r ≡ byteSums bytes rows ⌝ }
+{
+    let mut sums: [u64; BYTE_SUMS] = [0; BYTE_SUMS];
+    for j in 0..BYTES {
+        byte_table(&rows, j, &mut sums);
+    }
+    sums
+}
+
+// The sum of the entries that v's bytes pick, one of each table. With the tables of a matrix, and v below 2^LIMIT, it is the sum of the rows
+// that v's bits pick.
+pub fn sum_by_bytes(sums: &[u64; BYTE_SUMS], v: u64) -> u64
+    ensures { λ r. ⌜ r ≡ pickedBytes bytes (now (sums .entry)) v ⌝ }
+{
+    let mut sum: u64 = 0;
+    let mut left = v;
+    for j in 0..BYTES {
+        sum = sum ^ sums[256 * j + (left % 256) as usize];
+        left = left / 256;
+    }
+    sum
+}
