@@ -3,7 +3,7 @@
 --   firstLarge n i values   the index of the first value that is 2 ^ n or more, counted from i; past the last where there is none
 --
 -- Assumes nothing.
-use mathlib.Core.Path.{_≡_, refl, sym, ap, _∙_}
+use mathlib.Core.Path.{_≡_, refl, sym, ap, ap₂, _∙_}
 use mathlib.Core.Bool.{Bool, true, false, cond, _||_}
 use mathlib.Core.List.{List, [], _∷_, _++_, map, append-nil}
 use Prim.Native.Nat.{ℕ, zero, suc, _+_, _^_, _≤_, _<_}
@@ -132,6 +132,12 @@ fill-done convert from start into i h e inv =
 pub fill-length : (convert : ℕ → ℕ) (from start into : List ℕ) (i : ℕ) → i ≤ length from → length from ≡ length start → FilledTo convert from start into i → length into ≡ length start
 fill-length convert from start into i h e inv =
     rw (inv, length-append, map-length, take-size i from h, length-drop) (omega arith)
+
+-- two ways to convert that agree at the values of a list convert it alike
+pub map-agree : (convert other : ℕ → ℕ) (xs : List ℕ) → ((i : ℕ) → i < length xs → convert (getD xs i 0) ≡ other (getD xs i 0)) → map convert xs ≡ map other xs
+map-agree convert other [] h = refl
+map-agree convert other (x ∷ xs) h =
+    ap₂ {C = List ℕ} (λ (y : ℕ) (l : List ℕ). y ∷ l) (h 0 (omega arith)) (map-agree convert other xs (λ i l. h (suc i) (omega arith)))
 
 -- ---- the answer, its report and the list
 

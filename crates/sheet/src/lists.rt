@@ -18,10 +18,15 @@ use field::Checked;
 use field::Refusal;
 use field::too_large;
 use gf2::LIMIT;
+use rows::byte_sums;
 use rows::sum;
+use rows::sum_by_bytes;
 
 // The most values that a list may have.
 pub const LIST_LIMIT: usize = 4096;
+
+// The number of values from which on tables pay: making them takes about as long as summing the rows for so many values bit by bit.
+const TABLES_PAY: usize = 64;
 
 // The index of the first value that is 2^n or more, or the number of values.
 fn first_too_large(n: u32, values: &[u64]) -> usize
@@ -62,6 +67,29 @@ fn convert_all(rows: &[u64; LIMIT], list: &mut [u64])
     }
 }
 
+// The same from the tables of the rows, made once for the whole list.
+fn convert_by_bytes(rows: [u64; LIMIT], list: &mut [u64])
+    requires { ⌜ ((i : ℕ) → i < length (now list) → getD (now list) i 0 < 2 ^ limit) ⌝ }
+    ensures { λ r. ⌜ now (list .exit) ≡ map (comb rows) (now (list .entry)) ⌝ }
+{
+    let sums = byte_sums(rows);
+    for i in 0..list.len() {
+        list[i] = sum_by_bytes(&sums, list[i]);
+    }
+}
+
+// Every value converted by the rows, in the way that is faster for a list of its length.
+fn convert_values(rows: [u64; LIMIT], list: &mut [u64])
+    requires { ⌜ ((i : ℕ) → i < length (now list) → getD (now list) i 0 < 2 ^ limit) ⌝ }
+    ensures { λ r. ⌜ now (list .exit) ≡ map (comb rows) (now (list .entry)) ⌝ }
+{
+    if list.len() < TABLES_PAY {
+        convert_all(&rows, list);
+    } else {
+        convert_by_bytes(rows, list);
+    }
+}
+
 // The list from, converted by the rows of one field into the list into.
 fn convert_list(sheet: &[u8], at: usize, from: &[u64], into: &mut [u64]) -> Checked
     requires { ⌜ at + 8 ≤ recordSize ⌝ }
@@ -96,7 +124,7 @@ fn convert_list(sheet: &[u8], at: usize, from: &[u64], into: &mut [u64]) -> Chec
     }
     let rows = load_rows(sheet, at);
     copy(from, into);
-    convert_all(&rows, into);
+    convert_values(rows, into);
     Checked::Done
 }
 

@@ -104,9 +104,9 @@ load-rows-requires c κs =
 copy-requires : tie.Need-copy-requires
 copy-requires c κs = c .before .before .before .before .before .if2 .left
 
-convert-all-requires : tie.Need-convert-all-requires
-convert-all-requires c κs =
-    let w = c .before .before .before .before in
+convert-values-requires : tie.Need-convert-values-requires
+convert-values-requires c κs =
+    let w = c .before .before .before in
     let x = w .before .before .before in
     let t = x .before in
     let q = t .before .before in
@@ -125,7 +125,7 @@ same-length c = search needs
 returns-5 : tie.Need-returns-5
 returns-5 c =
     let a = c .before .before in
-    let y = a .before .before .before .before .before in
+    let y = a .before .before .before .before in
     let r = y .before .before in
     let x = r .before in
     let t = x .before in
@@ -138,7 +138,7 @@ returns-5 c =
     let z = clear-shaped (s .args .sheet .now) k in
     let n = recordCount (s .args .sheet .now) in
     let v = small-verdict n 0 (s .args .from .now) (omega (arith, t .first-too-large .ensures, x .if4 .left)) in
-    list-done (s .args .sheet .now) (s .args .at) (s .args .from .now) (s .args .into .now) (a .convert-all .ensures ∙ ap (map (comb (r .load-rows .result))) (y .copy .ensures) ∙ map-loaded (s .args .sheet .now) (s .args .at) (r .load-rows .ensures) (s .args .from .now))
+    list-done (s .args .sheet .now) (s .args .at) (s .args .from .now) (s .args .into .now) (a .convert-values .ensures ∙ ap (map (comb (r .load-rows .result))) (y .copy .ensures) ∙ map-loaded (s .args .sheet .now) (s .args .at) (r .load-rows .ensures) (s .args .from .now))
     (list-values (s .args .sheet .now) (s .args .from .now) (length (s .args .into .now)) k (q .if2 .left) (w .if3 .left) ∙ v .0)
 
 pub convert-list-spec : {M : Type 1} → statement M
@@ -154,6 +154,6 @@ convert-list-spec =
     returns-4
     load-rows-requires
     copy-requires
-    convert-all-requires
+    convert-values-requires
     same-length
     returns-5)
