@@ -45,15 +45,14 @@ fn byte_table(rows: &[u64; LIMIT], j: usize, sums: &mut [u64; BYTE_SUMS])
     }
 }
 
-// All tables of a matrix, one exclusive or for each entry.
-pub fn byte_sums(rows: [u64; LIMIT]) -> [u64; BYTE_SUMS]
-    ensures { λ r. ⌜ r ≡ byteSums bytes rows ⌝ }
+// All tables of a matrix, one exclusive or for each entry, whatever the array held before. It is lent, since returning one costs a copy.
+pub fn byte_sums(rows: [u64; LIMIT], sums: &mut [u64; BYTE_SUMS])
+    requires { ⌜ length (now sums) ≡ 256 * bytes ⌝ }
+    ensures { λ r. ⌜ now (sums .exit) ≡ byteSums bytes rows ⌝ }
 {
-    let mut sums: [u64; BYTE_SUMS] = [0; BYTE_SUMS];
     for j in 0..BYTES {
-        byte_table(&rows, j, &mut sums);
+        byte_table(&rows, j, sums);
     }
-    sums
 }
 
 // The sum of the entries that v's bytes pick, one of each table. With the tables of a matrix, and v below 2^LIMIT, it is the sum of the rows
@@ -63,8 +62,8 @@ pub fn sum_by_bytes(sums: &[u64; BYTE_SUMS], v: u64) -> u64
 {
     let mut sum: u64 = 0;
     let mut left = v;
-    for j in 0..BYTES {
-        sum = sum ^ sums[256 * j + (left % 256) as usize];
+    for byte in 0..BYTES {
+        sum = sum ^ sums[256 * byte + (left % 256) as usize];
         left = left / 256;
     }
     sum

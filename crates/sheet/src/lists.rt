@@ -18,6 +18,7 @@ use field::Checked;
 use field::Refusal;
 use field::too_large;
 use gf2::LIMIT;
+use rows::BYTE_SUMS;
 use rows::byte_sums;
 use rows::sum;
 use rows::sum_by_bytes;
@@ -25,8 +26,9 @@ use rows::sum_by_bytes;
 // The most values that a list may have.
 pub const LIST_LIMIT: usize = 4096;
 
-// The number of values from which on tables pay: making them takes about as long as summing the rows for so many values bit by bit.
-const TABLES_PAY: usize = 64;
+// The number of values from which on the sums are taken from tables. Making the tables takes as long as summing bit by bit takes for a dozen
+// values at degree 46, and for so many at degree 10.
+const TABLES_PAY: usize = 48;
 
 // The index of the first value that is 2^n or more, or the number of values.
 fn first_too_large(n: u32, values: &[u64]) -> usize
@@ -72,7 +74,8 @@ fn convert_by_bytes(rows: [u64; LIMIT], list: &mut [u64])
     requires { ⌜ ((i : ℕ) → i < length (now list) → getD (now list) i 0 < 2 ^ limit) ⌝ }
     ensures { λ r. ⌜ now (list .exit) ≡ map (comb rows) (now (list .entry)) ⌝ }
 {
-    let sums = byte_sums(rows);
+    let mut sums: [u64; BYTE_SUMS] = [0; BYTE_SUMS];
+    byte_sums(rows, &mut sums);
     for i in 0..list.len() {
         list[i] = sum_by_bytes(&sums, list[i]);
     }

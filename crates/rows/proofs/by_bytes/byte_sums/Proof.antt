@@ -1,25 +1,21 @@
 -- `rows::by_bytes::byte_sums` meets its contract. The loop's invariant: the first j tables are filled (`tables`). The measure is the number of
 -- tables to come. Assumes nothing.
 use mathlib.Core.Path.{_≡_, refl, ap, _∙_}
-use mathlib.Core.List.{List}
-use Prim.Native.Nat.{ℕ, _-_, _*_, _≤_}
+use Prim.Native.Nat.{ℕ, _-_, _≤_}
 use native.Mathlib.Omega.{arith}
 use borrow.Author.Needs.{needs}
-use lib.ListN.{length, replicate, length-replicate}
+use lib.ListN.{length}
 use Rattle.gf2.specs.Limit.{limit}
 use Rattle.rows.specs.ByteSums.{bytes}
 use Rattle.rows.specs.Doubling.{tables, tables-turn, tables-sums}
 use Rattle.rows.proofs.by_bytes.byte_sums.Statement.{statement}
 use Rattle.rows.proofs.by_bytes.byte_sums.Tie as tie
 
-abbrev zeros : List ℕ
-zeros = replicate (256 * bytes) 0
-
 abbrev Inv-loop : tie.InvT-loop
-Inv-loop rows sums₀ j₀ sums j = (j ≤ bytes) × (sums ≡ tables j rows zeros)
+Inv-loop sums₀ rows j₀ sums j = (j ≤ bytes) × (sums ≡ tables j rows sums₀)
 
 abbrev μ-loop : tie.MeasureT-loop
-μ-loop rows sums₀ j₀ sums j = bytes - j
+μ-loop sums₀ rows j₀ sums j = bytes - j
 
 length-rows : (c : tie.Start Inv-loop μ-loop) → length (c .args .t1) ≡ limit
 length-rows c = search needs
@@ -40,14 +36,15 @@ loop-less c = omega arith
 loop-again : tie.Need-loop-again Inv-loop μ-loop
 loop-again c =
     let l = c .before .before .before .before in
-    (omega arith, tables-turn (l .before .args .t1) zeros (l .loop .j) (l .loop .sums) _ (l .loop .inv .1) (c .byte-table .ensures))
+    let s = l .before .args in
+    (omega arith, tables-turn (s .t1) (s .sums .now) (l .loop .j) (l .loop .sums) _ (l .loop .inv .1) (c .byte-table .ensures))
 
 returns : tie.Need-returns Inv-loop μ-loop
 returns c =
     let l = c .before in
-    let rows = l .before .args .t1 in
+    let s = l .before .args in
     let e : l .loop .j ≡ bytes = omega arith in
-    l .loop .inv .1 ∙ ap (λ (m : ℕ). tables m rows zeros) e ∙ tables-sums rows zeros bytes (length-replicate {A = ℕ} (256 * bytes) 0)
+    l .loop .inv .1 ∙ ap (λ (m : ℕ). tables m (s .t1) (s .sums .now)) e ∙ tables-sums (s .t1) (s .sums .now) bytes (l .before .pre)
 
 pub byte-sums-spec : {M : Type 1} → statement M
 byte-sums-spec =

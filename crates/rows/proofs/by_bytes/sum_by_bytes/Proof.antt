@@ -11,10 +11,10 @@ use Rattle.rows.proofs.by_bytes.sum_by_bytes.Statement.{statement}
 use Rattle.rows.proofs.by_bytes.sum_by_bytes.Tie as tie
 
 abbrev Inv-loop : tie.InvT-loop
-Inv-loop sums v sum₀ left₀ j₀ sum left j = (j ≤ bytes) × (sum ⊕ pickedBytes (bytes - j) (drop (256 * j) sums) left ≡ pickedBytes bytes sums v)
+Inv-loop sums v sum₀ left₀ byte₀ sum left byte = (byte ≤ bytes) × (sum ⊕ pickedBytes (bytes - byte) (drop (256 * byte) sums) left ≡ pickedBytes bytes sums v)
 
 abbrev μ-loop : tie.MeasureT-loop
-μ-loop sums v sum₀ left₀ j₀ sum left j = bytes - j
+μ-loop sums v sum₀ left₀ byte₀ sum left byte = bytes - byte
 
 loop-holds : tie.Need-loop-holds Inv-loop μ-loop
 loop-holds c = (omega arith, zero-⊕ _)
@@ -31,8 +31,8 @@ mul-sum-2 c = omega arith
 element-copy-out-sum : tie.Need-element-copy-out-sum Inv-loop μ-loop
 element-copy-out-sum c = omega arith
 
-add-j : tie.Need-add-j Inv-loop μ-loop
-add-j c = omega arith
+add-byte : tie.Need-add-byte Inv-loop μ-loop
+add-byte c = omega arith
 
 loop-less : tie.Need-loop-less Inv-loop μ-loop
 loop-less c = omega arith
@@ -42,13 +42,13 @@ unfolding _⊕_
 loop-again c =
     let l = c .before .before in
     let s = l .before .args in
-    (omega arith, bytes-turn bytes (l .loop .j) (s .sums .now) (l .loop .sum) (l .loop .left) (pickedBytes bytes (s .sums .now) (s .v)) (c .before .loop-test .taken) (l .loop .inv .1))
+    (omega arith, bytes-turn bytes (l .loop .byte) (s .sums .now) (l .loop .sum) (l .loop .left) (pickedBytes bytes (s .sums .now) (s .v)) (omega arith) (l .loop .inv .1))
 
 returns : tie.Need-returns Inv-loop μ-loop
 returns c =
     let l = c .before in
     let s = l .before .args in
-    bytes-end bytes (l .loop .j) (s .sums .now) (l .loop .sum) (l .loop .left) (pickedBytes bytes (s .sums .now) (s .v)) (c .loop-test .left) (l .loop .inv .1)
+    bytes-end bytes (l .loop .byte) (s .sums .now) (l .loop .sum) (l .loop .left) (pickedBytes bytes (s .sums .now) (s .v)) (omega arith) (l .loop .inv .1)
 
 pub sum-by-bytes-spec : {M : Type 1} → statement M
 sum-by-bytes-spec =
@@ -61,7 +61,7 @@ sum-by-bytes-spec =
     add-sum
     mul-sum-2
     element-copy-out-sum
-    add-j
+    add-byte
     loop-less
     loop-again
     returns)

@@ -20,10 +20,10 @@ abbrev μ-loop : tie.MeasureT-loop
 μ-loop list₀ sums i₀ i-end list i = length list₀ - i
 
 -- the list keeps its length
-kept : (l : tie.At-loop Inv-loop μ-loop) → length (l .loop .list) ≡ length (l .before .before .before .args .list .now)
+kept : (l : tie.At-loop Inv-loop μ-loop) → length (l .loop .list) ≡ length (l .before .before .before .before .args .list .now)
 kept l =
-    let s = l .before .before .before in
-    fill-length (pickedBytes bytes (l .before .byte-sums .result)) (s .args .list .now) (s .args .list .now) (l .loop .list) (l .loop .i) (l .loop .inv .0) refl (l .loop .inv .1)
+    let s = l .before .before .before .before in
+    fill-length (pickedBytes bytes (l .before .byte-sums .last .1 .0)) (s .args .list .now) (s .args .list .now) (l .loop .list) (l .loop .i) (l .loop .inv .0) refl (l .loop .inv .1)
 
 -- what the tables of the rows pick of small values is what the rows pick
 by-bits : (rows : List ℕ) {sums : List ℕ} → sums ≡ byteSums bytes rows → (values : List ℕ) → ((i : ℕ) → i < length values → getD values i 0 < 2 ^ limit)
@@ -60,8 +60,8 @@ loop-less c = omega (arith, kept (c .before .before .before .before))
 loop-again : tie.Need-loop-again Inv-loop μ-loop
 loop-again c =
     let l = c .before .before .before .before in
-    let s = l .before .before .before in
-    let convert = pickedBytes bytes (l .before .byte-sums .result) in
+    let s = l .before .before .before .before in
+    let convert = pickedBytes bytes (l .before .byte-sums .last .1 .0) in
     let h : l .loop .i < length (s .args .list .now) = omega arith in
     (omega (arith, h), fill-turn convert (s .args .list .now) (s .args .list .now) (l .loop .list) (l .loop .i) (c .sum-by-bytes .result) h refl (c .sum-by-bytes .ensures ∙ ap convert (fill-rest convert (s .args .list .now) (s .args .list .now) (l .loop .list) (l .loop .i) h refl (l .loop .inv .1))) (l .loop .inv .1))
 
@@ -71,8 +71,8 @@ same-length c = kept (c .before)
 returns : tie.Need-returns Inv-loop μ-loop
 returns c =
     let l = c .before in
-    let s = l .before .before .before in
-    fill-done (pickedBytes bytes (l .before .byte-sums .result)) (s .args .list .now) (s .args .list .now) (l .loop .list) (l .loop .i) (omega arith) refl (l .loop .inv .1)
+    let s = l .before .before .before .before in
+    fill-done (pickedBytes bytes (l .before .byte-sums .last .1 .0)) (s .args .list .now) (s .args .list .now) (l .loop .list) (l .loop .i) (omega arith) refl (l .loop .inv .1)
     ∙ by-bits (s .args .rows) (l .before .byte-sums .ensures) (s .args .list .now) (s .pre)
 
 pub convert-by-bytes-spec : {M : Type 1} → statement M
