@@ -12,3 +12,4 @@ pub mod Conjugated
 pub mod Filling
 pub mod Turns
 pub mod Building
+pub mod Reference
