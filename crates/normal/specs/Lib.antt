@@ -13,3 +13,4 @@ pub mod Filling
 pub mod Turns
 pub mod Building
 pub mod Reference
+pub mod Halves
