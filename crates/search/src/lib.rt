@@ -2,6 +2,7 @@
 mod answer;
 mod leader;
 mod searching;
+mod squares;
 
 pub use answer::Best;
 pub use answer::Search;
