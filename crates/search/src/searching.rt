@@ -4,11 +4,14 @@ ghost use Prim.Native.Nat.{_+_, _^_, _≤_, _<_};
 ghost use Rattle.gf2.specs.Poly.{Degree};
 ghost use Rattle.gf2.specs.Spread.{SpreadTable};
 ghost use Rattle.gf2.specs.Limit.{limit};
+ghost use Rattle.rows.specs.ByteSums.{bytes, byteSums};
 ghost use Rattle.search.specs.Search.{precedes, better, joined, countOf, candidateOf, ranged};
 ghost use Rattle.search.specs.Answers.{searchAnswer, searchReport, caseReport};
+ghost use Rattle.search.specs.Squares.{squareRows};
 use super::answer::Best;
 use super::answer::Search;
 use super::leader::is_leader;
+use super::squares::square_sums;
 use field::degree_outside;
 use field::field_refusal;
 use field::too_large;
@@ -17,6 +20,7 @@ use gf2::spread_table;
 use normal::build_basis;
 use normal::complexity_of;
 use normal::grade_of;
+use rows::BYTE_SUMS;
 
 // "Found names least complexity, then smallest element": whether complexity c and element e come before complexity d and element g.
 fn precedes(c: u32, e: u64, d: u32, g: u64) -> bool
@@ -71,11 +75,11 @@ fn joined(left: Search, right: Search) -> Search
 }
 
 // The answer over the single element a. A basis is built for leaders alone.
-fn candidate(spread: &[u16; 256], f: u64, n: u32, a: u64) -> Search
-    requires { ⌜ SpreadTable (now spread) × (2 ≤ n) × (n ≤ limit) × Degree f n × (a < 2 ^ n) ⌝ }
+fn candidate(spread: &[u16; 256], squares: &[u64; BYTE_SUMS], f: u64, n: u32, a: u64) -> Search
+    requires { ⌜ SpreadTable (now spread) × (now squares ≡ byteSums bytes (squareRows f n)) × (2 ≤ n) × (n ≤ limit) × Degree f n × (a < 2 ^ n) ⌝ }
     ensures { λ r. ⌜ r ≡ candidateOf f n a ⌝ }
 {
-    if !is_leader(spread, f, n, a) {
+    if !is_leader(squares, f, n, a) {
         return Search::Nothing;
     }
     let built = build_basis(spread, f, n, a);
@@ -98,10 +102,11 @@ fn walk(spread: &[u16; 256], f: u64, n: u32, first: u64, last: u64) -> Search
     requires { ⌜ SpreadTable (now spread) × (2 ≤ n) × (n ≤ limit) × Degree f n × (first ≤ last) × (last < 2 ^ n) ⌝ }
     ensures { λ r. ⌜ r ≡ ranged f n first last ⌝ }
 {
+    let squares = square_sums(spread, f, n);
     let mut found = Search::Nothing;
     let mut a = first;
     while a <= last {
-        let more = joined(found, candidate(spread, f, n, a));
+        let more = joined(found, candidate(spread, &squares, f, n, a));
         found = more;
         a += 1;
     }

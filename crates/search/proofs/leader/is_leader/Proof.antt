@@ -16,10 +16,10 @@ use Rattle.search.proofs.leader.is_leader.Statement.{statement}
 use Rattle.search.proofs.leader.is_leader.Tie as tie
 
 abbrev Inv-loop : tie.InvT-loop
-Inv-loop spread f n a y₀ i₀ y i = (i < n) × (y ≡ squared f n i a) × ((j : ℕ) → j ≤ i → a ≤ squared f n j a)
+Inv-loop squares f n a y₀ i₀ y i = (i < n) × (y ≡ squared f n i a) × ((j : ℕ) → j ≤ i → a ≤ squared f n j a)
 
 abbrev μ-loop : tie.MeasureT-loop
-μ-loop spread f n a y₀ i₀ y i = n - i
+μ-loop squares f n a y₀ i₀ y i = n - i
 
 start : (f n a : ℕ) → (a ≡ squared f n 0 a) × ((j : ℕ) → j ≤ 0 → a ≤ squared f n j a)
 unfolding squared
@@ -40,12 +40,12 @@ loop-holds c =
 add-if1 : tie.Need-add-if1 Inv-loop μ-loop
 add-if1 c = omega (arith, c .before .pre .2)
 
-square-requires : tie.Need-square-requires Inv-loop μ-loop
-square-requires c κs =
+square-by-bytes-requires : tie.Need-square-by-bytes-requires Inv-loop μ-loop
+square-by-bytes-requires c κs =
     let l = c .before in
     let s = l .before in (
       s .pre .0,
-      omega (arith, s .pre .2),
+      s .pre .2,
       s .pre .3,
       rw (l .loop .inv .1) (squared-lt (s .args .f) (s .args .n) (s .pre .3) (l .loop .i) (s .args .a) (s .pre .4)),
     )
@@ -61,8 +61,8 @@ loop-again c =
     let q = c .before in
     let l = q .before .before in
     let s = l .before in
-    let e = next (s .args .f) (s .args .n) (s .pre .3) (l .loop .i) (s .args .a) (l .loop .y) (q .square .result) (l .loop .inv .1) (q .square .ensures) in
-    (omega arith, e, passed (s .args .f) (s .args .n) (l .loop .i) (s .args .a) (q .square .result) e (c .if2 .left) (l .loop .inv .2))
+    let e = next (s .args .f) (s .args .n) (s .pre .3) (l .loop .i) (s .args .a) (l .loop .y) (q .square-by-bytes .result) (l .loop .inv .1) (q .square-by-bytes .ensures) in
+    (omega arith, e, passed (s .args .f) (s .args .n) (l .loop .i) (s .args .a) (q .square-by-bytes .result) e (c .if2 .left) (l .loop .inv .2))
 
 returns : tie.Need-returns Inv-loop μ-loop
 returns c =
@@ -75,7 +75,7 @@ returns-2 c =
     let q = c .before in
     let l = q .before .before in
     let s = l .before in
-    let e = next (s .args .f) (s .args .n) (s .pre .3) (l .loop .i) (s .args .a) (l .loop .y) (q .square .result) (l .loop .inv .1) (q .square .ensures) in
+    let e = next (s .args .f) (s .args .n) (s .pre .3) (l .loop .i) (s .args .a) (l .loop .y) (q .square-by-bytes .result) (l .loop .inv .1) (q .square-by-bytes .ensures) in
     sym (not-leader (s .args .f) (s .args .n) (s .args .a) (l .loop .i + 1) (omega arith) (rw e at (c .if2 .taken)))
 
 pub is-leader-spec : {M : Type 1} → statement M
@@ -86,7 +86,7 @@ is-leader-spec =
     μ-loop
     loop-holds
     add-if1
-    square-requires
+    square-by-bytes-requires
     add-i
     loop-less
     loop-again

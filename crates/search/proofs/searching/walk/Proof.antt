@@ -13,10 +13,10 @@ use Rattle.search.proofs.searching.walk.Statement.{statement}
 use Rattle.search.proofs.searching.walk.Tie as tie
 
 abbrev Inv-loop : tie.InvT-loop
-Inv-loop spread f n first last found₀ a₀ found a = (first ≤ a) × (a ≤ last + 1) × (found ≡ walked f n first (a - first))
+Inv-loop spread f n first last squares found₀ a₀ found a = (first ≤ a) × (a ≤ last + 1) × (found ≡ walked f n first (a - first))
 
 abbrev μ-loop : tie.MeasureT-loop
-μ-loop spread f n first last found₀ a₀ found a = last + 1 - a
+μ-loop spread f n first last squares found₀ a₀ found a = last + 1 - a
 
 start : (f n first : ℕ) → Nothing ≡ walked f n first (first - first)
 start f n first = let z : first - first ≡ 0 = omega arith in rw z (sym (walked-none f n first))
@@ -38,26 +38,33 @@ done : (f n first last a : ℕ) (x : Search) → a ≤ last + 1 → last < a →
 unfolding ranged
 done f n first last a x p q e = let s : a - first ≡ suc last - first = omega arith in e ∙ ap (walked f n first) s
 
+square-sums-requires : tie.Need-square-sums-requires Inv-loop μ-loop
+square-sums-requires c κs = (c .pre .0, c .pre .2, c .pre .3)
+
 loop-holds : tie.Need-loop-holds Inv-loop μ-loop
-loop-holds c = (omega arith, omega (arith, c .pre .4), start (c .args .f) (c .args .n) (c .args .first))
+loop-holds c =
+    let s = c .before in
+    (omega arith, omega (arith, s .pre .4), start (s .args .f) (s .args .n) (s .args .first))
 
 candidate-requires : tie.Need-candidate-requires Inv-loop μ-loop
 candidate-requires c κs =
-    let s = c .before .before in
-    (s .pre .0, s .pre .1, s .pre .2, s .pre .3, omega (arith, s .pre .5, c .loop-test .taken))
+    let i = c .before in
+    let q = i .before .before in
+    let s = q .before in
+    (s .pre .0, q .square-sums .ensures, s .pre .1, s .pre .2, s .pre .3, omega (arith, s .pre .5, i .loop-test .taken))
 
 joined-requires : tie.Need-joined-requires Inv-loop μ-loop
 joined-requires c κs =
-    let i = c .before in
+    let i = c .before .before in
     let l = i .before in
-    let s = l .before in
+    let s = l .before .before in
     counts (s .args .f) (s .args .n) (s .args .first) (l .loop .a) (l .loop .inv .0) (l .loop .found) (c .candidate .result) (l .loop .inv .2) (c .candidate .ensures)
     (s .args .last) (omega (arith, i .loop-test .taken)) (s .pre .2) (s .pre .5)
 
 add-a : tie.Need-add-a Inv-loop μ-loop
 add-a c =
-    let i = c .before .before in
-    let s = i .before .before in
+    let i = c .before .before .before in
+    let s = i .before .before .before in
     omega (arith, s .pre .5, pow-mono (s .pre .2), i .loop-test .taken)
 
 loop-less : tie.Need-loop-less Inv-loop μ-loop
@@ -66,9 +73,9 @@ loop-less c = omega arith
 loop-again : tie.Need-loop-again Inv-loop μ-loop
 loop-again c =
     let k = c .before in
-    let i = k .before in
+    let i = k .before .before in
     let l = i .before in
-    let s = l .before in (
+    let s = l .before .before in (
       omega (arith, l .loop .inv .0),
       omega (arith, i .loop-test .taken),
       turn (s .args .f) (s .args .n) (s .args .first) (l .loop .a) (l .loop .inv .0) (l .loop .found) (k .candidate .result) (l .loop .inv .2) (k .candidate .ensures)
@@ -78,7 +85,7 @@ loop-again c =
 returns : tie.Need-returns Inv-loop μ-loop
 returns c =
     let l = c .before in
-    let s = l .before in
+    let s = l .before .before in
     done (s .args .f) (s .args .n) (s .args .first) (s .args .last) (l .loop .a) (l .loop .found) (l .loop .inv .1) (omega (arith, c .loop-test .left)) (l .loop .inv .2)
 
 pub walk-spec : {M : Type 1} → statement M
@@ -87,6 +94,7 @@ walk-spec =
     (tie.spec
     Inv-loop
     μ-loop
+    square-sums-requires
     loop-holds
     candidate-requires
     joined-requires
