@@ -5,6 +5,7 @@ pub mod Squares
 pub mod Leaders
 pub mod Joined
 pub mod Walks
+pub mod Traces
 pub mod Named
 pub mod Whole
 pub mod Orders

@@ -3,6 +3,7 @@ mod answer;
 mod leader;
 mod searching;
 mod squares;
+mod traces;
 
 pub use answer::Best;
 pub use answer::Search;

@@ -1,17 +1,16 @@
 -- `search::leader::is_leader` meets its contract. The invariant: y is the conjugate c_i, and none of c_0 to c_i is smaller than a.
 -- The measure is what is left of n. Assumes nothing.
-use mathlib.Core.Path.{_≡_, refl, sym, _∙_}
+use mathlib.Core.Path.{_≡_, refl, sym}
 use mathlib.Core.Logic.{⊎-elim}
 use Prim.Native.Nat.{ℕ, _+_, _-_, _≤_, _<_}
 use native.Mathlib.Nat.{le-refl}
-use native.Mathlib.Numerals.{add-one}
 use native.Mathlib.Omega.{arith}
-use Rattle.gf2.specs.Poly.{mulMod, Degree}
 use Rattle.gf2.specs.Numbers.{order}
 use Rattle.field.specs.Field.{squared}
-use Rattle.field.specs.Frobenius.{squared-lt, squared-next}
+use Rattle.field.specs.Frobenius.{squared-lt}
 use Rattle.search.specs.Search.{leader}
 use Rattle.search.specs.Leaders.{leader-means, not-leader}
+use Rattle.search.specs.Squares.{squares-turn}
 use Rattle.search.proofs.leader.is_leader.Statement.{statement}
 use Rattle.search.proofs.leader.is_leader.Tie as tie
 
@@ -24,9 +23,6 @@ abbrev μ-loop : tie.MeasureT-loop
 start : (f n a : ℕ) → (a ≡ squared f n 0 a) × ((j : ℕ) → j ≤ 0 → a ≤ squared f n j a)
 unfolding squared
 start f n a = (refl, λ j h. let e : j ≡ 0 = omega arith in rw e (le-refl a))
-
-next : (f n : ℕ) → Degree f n → (i a y z : ℕ) → y ≡ squared f n i a → z ≡ mulMod f n y y → z ≡ squared f n (i + 1) a
-next f n deg i a y z inv e = e ∙ rw (inv, add-one) (squared-next f n deg i a)
 
 passed : (f n i a z : ℕ) → z ≡ squared f n (i + 1) a → a ≤ z → ((j : ℕ) → j ≤ i → a ≤ squared f n j a) → (j : ℕ) → j ≤ i + 1 → a ≤ squared f n j a
 passed f n i a z e h all j l =
@@ -61,7 +57,7 @@ loop-again c =
     let q = c .before in
     let l = q .before .before in
     let s = l .before in
-    let e = next (s .args .f) (s .args .n) (s .pre .3) (l .loop .i) (s .args .a) (l .loop .y) (q .square-by-bytes .result) (l .loop .inv .1) (q .square-by-bytes .ensures) in
+    let e = squares-turn (s .args .f) (s .args .n) (s .pre .3) (l .loop .i) (s .args .a) (l .loop .y) (q .square-by-bytes .result) (l .loop .inv .1) (q .square-by-bytes .ensures) in
     (omega arith, e, passed (s .args .f) (s .args .n) (l .loop .i) (s .args .a) (q .square-by-bytes .result) e (c .if2 .left) (l .loop .inv .2))
 
 returns : tie.Need-returns Inv-loop μ-loop
@@ -75,7 +71,7 @@ returns-2 c =
     let q = c .before in
     let l = q .before .before in
     let s = l .before in
-    let e = next (s .args .f) (s .args .n) (s .pre .3) (l .loop .i) (s .args .a) (l .loop .y) (q .square-by-bytes .result) (l .loop .inv .1) (q .square-by-bytes .ensures) in
+    let e = squares-turn (s .args .f) (s .args .n) (s .pre .3) (l .loop .i) (s .args .a) (l .loop .y) (q .square-by-bytes .result) (l .loop .inv .1) (q .square-by-bytes .ensures) in
     sym (not-leader (s .args .f) (s .args .n) (s .args .a) (l .loop .i + 1) (omega arith) (rw e at (c .if2 .taken)))
 
 pub is-leader-spec : {M : Type 1} → statement M

@@ -1,0 +1,54 @@
+// The trace by a mask: it is made once, and the trace of an element is then the parity of the ones that the two share.
+ghost use mathlib.Core.Path.{_≡_};
+ghost use Prim.Native.Nat.{_^_, _≤_, _<_};
+ghost use lib.Dec.{eqb};
+ghost use Rattle.gf2.specs.Poly.{Degree};
+ghost use Rattle.gf2.specs.Limit.{limit};
+ghost use Rattle.field.specs.Field.{squared, trace, Irreducible};
+ghost use Rattle.rows.specs.ByteSums.{bytes, byteSums};
+ghost use Rattle.search.specs.Squares.{squareRows};
+ghost use Rattle.search.specs.Traces.{traceMask};
+use super::squares::power_of_x;
+use super::squares::square_by_bytes;
+use gf2::picked;
+use rows::BYTE_SUMS;
+
+// The sum of the n conjugates of a, each squared by the tables.
+fn trace_of(squares: &[u64; BYTE_SUMS], f: u64, n: u32, a: u64) -> u64
+    requires { ⌜ (now squares ≡ byteSums bytes (squareRows f n)) × (n ≤ limit) × Degree f n × (a < 2 ^ n) ⌝ }
+    ensures { λ r. ⌜ r ≡ trace f n a ⌝ }
+{
+    let mut sum: u64 = 0;
+    let mut y = a;
+    let mut i: u32 = 0;
+    while i < n {
+        sum = sum ^ y;
+        y = square_by_bytes(squares, f, n, y);
+        i += 1;
+    }
+    sum
+}
+
+// Bit i is the trace of x^i.
+pub fn trace_mask(squares: &[u64; BYTE_SUMS], f: u64, n: u32) -> u64
+    requires { ⌜ (now squares ≡ byteSums bytes (squareRows f n)) × (n ≤ limit) × Degree f n ⌝ }
+    ensures { λ r. ⌜ r ≡ traceMask f n ⌝ }
+{
+    let mut mask: u64 = 0;
+    let count = n as usize;
+    let mut i: usize = 0;
+    while i < count {
+        let x = power_of_x(i);
+        mask = mask ^ picked(trace_of(squares, f, n, x) % 2, x);
+        i += 1;
+    }
+    mask
+}
+
+// Whether a has trace 1, from the mask of an accepted f.
+pub fn has_trace(mask: u64, f: u64, n: u32, a: u64) -> bool
+    requires { ⌜ (mask ≡ traceMask f n) × (2 ≤ n) × Degree f n × Irreducible f × (squared f n n 2 ≡ 2) × (a < 2 ^ n) ⌝ }
+    ensures { λ r. ⌜ r ≡ eqb (trace f n a) 1 ⌝ }
+{
+    u64::count_ones(a & mask) % 2 == 1
+}
