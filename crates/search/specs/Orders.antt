@@ -1,5 +1,6 @@
 -- Laws of the search's order: how a path through its conditions gives the first that applies, and how that gives the answer with its
--- numbers. What the call answers for an accepted f and over adjoining ranges: `Searched`.
+-- numbers; what it leaves of f where conditions 2 and 3 do not apply. What the call answers for an accepted f and over adjoining ranges:
+-- `Searched`.
 -- Assumes nothing.
 use mathlib.Core.Path.{_≡_, refl, _∙_}
 use mathlib.Core.Bool.{true, false}
@@ -8,9 +9,11 @@ use Prim.Native.Nat.{ℕ, _≤_, _<_}
 use borrow.Author.Tests.{lt-ltb, le-ltb}
 use Rattle.gf2.specs.Poly.{degree}
 use Rattle.gf2.specs.Bounded.{or-right}
-use Rattle.field.specs.Accepted.{degreeOutside}
-use Rattle.field.specs.Refusals.{Verdict, clear, refuse, firstOf, tooLarge, degreeRule, elementRule, fieldOrder}
-use Rattle.field.specs.Orders.{first-applies, first-passes, any-first, any-next}
+use Rattle.field.specs.Field.{squared, Irreducible}
+use Rattle.field.specs.Accepted.{degreeOutside, Accepted}
+use Rattle.field.specs.Refusals.{Verdict, clear, refuse, firstOf, tooLarge, degreeRule, elementRule, divisorRule, returnRule, fieldOrder}
+use Rattle.field.specs.Orders.{first-applies, first-passes, first-clear, any-first, any-next}
+use Rattle.field.specs.Checked.{accepted-irreducible, accepted-returns}
 use Rattle.search.specs.Answers.{rangeRule, searchOrder, searchOf, caseReport, reportOf}
 use Rattle.search.specs.declared.answer.Search.{Search}
 use Rattle.search.specs.declared.answer.Search.the-variants.{Refused}
@@ -53,3 +56,12 @@ module _ (f first last : ℕ) where
 
       pub search-past : first ≤ last → firstOf (searchOrder f first last) ≡ firstOf (fieldOrder f)
       search-past l = ends ∙ first-passes (rangeRule first last) _ (le-ltb last first l)
+
+-- ---- what conditions 2 and 3 leave where they do not apply: a field
+
+pub clear-field : (f n : ℕ) → n ≡ degree f → degreeOutside f ≡ false → firstOf (fieldOrder f) ≡ clear → Irreducible f × (squared f n n 2 ≡ 2)
+clear-field f n en inside e =
+    let two = first-clear (divisorRule f) (returnRule f ∷ []) e in
+    let three = first-clear (returnRule f) [] (two .1) in
+    let s : Accepted f = record { in-range = inside; undivided = two .0; returns = three .0 } in
+    rw en (accepted-irreducible f s, accepted-returns f s)

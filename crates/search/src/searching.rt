@@ -4,6 +4,7 @@ ghost use Prim.Native.Nat.{_+_, _^_, _≤_, _<_};
 ghost use Rattle.gf2.specs.Poly.{Degree};
 ghost use Rattle.gf2.specs.Spread.{SpreadTable};
 ghost use Rattle.gf2.specs.Limit.{limit};
+ghost use Rattle.field.specs.Field.{squared, Irreducible};
 ghost use Rattle.rows.specs.ByteSums.{bytes, byteSums};
 ghost use Rattle.search.specs.Search.{precedes, better, joined, countOf, candidateOf, ranged};
 ghost use Rattle.search.specs.Answers.{searchAnswer, searchReport, caseReport};
@@ -12,6 +13,8 @@ use super::answer::Best;
 use super::answer::Search;
 use super::leader::is_leader;
 use super::squares::square_sums;
+use super::traces::has_trace;
+use super::traces::trace_mask;
 use field::degree_outside;
 use field::field_refusal;
 use field::too_large;
@@ -97,17 +100,21 @@ fn candidate(spread: &[u16; 256], squares: &[u64; BYTE_SUMS], f: u64, n: u32, a:
     })
 }
 
-// The answer over the elements from first to last.
+// The answer over the elements from first to last. The tables and the mask are made once. A normal element has trace 1, so one without it is
+// skipped.
 fn walk(spread: &[u16; 256], f: u64, n: u32, first: u64, last: u64) -> Search
-    requires { ⌜ SpreadTable (now spread) × (2 ≤ n) × (n ≤ limit) × Degree f n × (first ≤ last) × (last < 2 ^ n) ⌝ }
+    requires { ⌜ SpreadTable (now spread) × (2 ≤ n) × (n ≤ limit) × Degree f n × Irreducible f × (squared f n n 2 ≡ 2) × (first ≤ last) × (last < 2 ^ n) ⌝ }
     ensures { λ r. ⌜ r ≡ ranged f n first last ⌝ }
 {
     let squares = square_sums(spread, f, n);
+    let mask = trace_mask(&squares, f, n);
     let mut found = Search::Nothing;
     let mut a = first;
     while a <= last {
-        let more = joined(found, candidate(spread, &squares, f, n, a));
-        found = more;
+        if has_trace(mask, f, n, a) {
+            let more = joined(found, candidate(spread, &squares, f, n, a));
+            found = more;
+        }
         a += 1;
     }
     found

@@ -11,7 +11,7 @@ use Rattle.field.specs.Refusals.{tooLarge}
 use Rattle.field.specs.Orders.{InRange, in-range, not-too-large, sized, field-clear, field-refused}
 use Rattle.search.specs.Search.{ranged}
 use Rattle.search.specs.Answers.{searchAnswer, searchReport}
-use Rattle.search.specs.Orders.{search-refused, search-done, search-outside, search-first, search-last, search-empty, search-past}
+use Rattle.search.specs.Orders.{search-refused, search-done, search-outside, search-first, search-last, search-empty, search-past, clear-field}
 use Rattle.search.proofs.searching.search.Statement.{statement}
 use Rattle.search.proofs.searching.search.Tie as tie
 
@@ -108,18 +108,24 @@ returns-5 c =
 
 walk-requires : tie.Need-walk-requires
 walk-requires c κs =
-    let p = c .before .before .before .before in
+    let k = c .before .before in
+    let p = k .before .before in
     let o = p .before in
     let l = o .before in
     let t = l .before in
     let d = t .before .before .before in
-    let r = ranges d in (
+    let s = d .before .before .before in
+    let r = ranges d in
+    let field = clear-field (s .args .f) (d .degree-of .result) (d .degree-of .ensures) (inside (d .before))
+    (field-clear (s .args .f) (k .field-refusal .result) (k .field-refusal .ensures) (c .before .if5 .left)) in (
       p .spread-table .ensures,
       r .two,
       r .most,
       r .is-degree,
+      field .0,
+      field .1,
       o .if4 .left,
-      not-too-large (d .degree-of .result) (d .before .before .before .args .last) (sym (t .too-large2 .ensures) ∙ l .if3 .left),
+      not-too-large (d .degree-of .result) (s .args .last) (sym (t .too-large2 .ensures) ∙ l .if3 .left),
     )
 
 returns-6 : tie.Need-returns-6
