@@ -1,6 +1,6 @@
 -- `search::traces::has_trace` meets its contract: the parity of what the element shares with the mask is its trace.
 -- Assumes nothing.
-use mathlib.Core.Path.{_≡_, refl, sym, ap, _∙_}
+use mathlib.Core.Path.{ap, _∙_}
 use Prim.Native.Nat.{ℕ, _%_}
 use lib.Bits.{bitAnd}
 use lib.Count.{ones}
