@@ -10,3 +10,4 @@ pub mod Named
 pub mod Whole
 pub mod Orders
 pub mod Searched
+pub mod Units

@@ -4,6 +4,7 @@ mod leader;
 mod searching;
 mod squares;
 mod traces;
+mod units;
 
 pub use answer::Best;
 pub use answer::Search;
