@@ -11,3 +11,4 @@ pub mod Whole
 pub mod Orders
 pub mod Searched
 pub mod Units
+pub mod Through

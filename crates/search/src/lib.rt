@@ -1,6 +1,7 @@
 // The search of a range for the normal basis of least complexity (document 01, "Search").
 mod answer;
 mod leader;
+mod reference;
 mod searching;
 mod squares;
 mod traces;

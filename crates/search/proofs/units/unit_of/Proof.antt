@@ -4,7 +4,6 @@ use mathlib.Core.Path.{_≡_, sym, ap, _∙_}
 use Prim.Native.Nat.{ℕ, _+_, _^_, _<_}
 use native.Mathlib.Omega.{arith}
 use borrow.Author.Needs.{needs}
-use borrow.Author.Tests.{not-false}
 use Rattle.gf2.specs.Poly.{mulMod}
 use Rattle.field.specs.Orders.{not-too-large}
 use Rattle.normal.specs.Reference.{turn-degree}
