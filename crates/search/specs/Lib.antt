@@ -1,6 +1,7 @@
 -- The search of a range: definitions in `Search` and `Answers`, laws in the rest.
 pub mod Search
 pub mod Answers
+pub mod Begun
 pub mod Squares
 pub mod Leaders
 pub mod Joined

@@ -1,10 +1,10 @@
 -- The trace by a mask. Both the trace and the parity of what a number shares with a mask are additive, so a mask that agrees at the powers
--- of x agrees at every element. A normal element has trace 1: an element of trace 0 is no candidate, and no basis of it has to be tried.
+-- of x agrees at every element. A normal element has trace 1: an element of trace 0 is no normal leader, and no basis of it has to be tried.
 --
 --   maskTo f n k    the sum of those x ^ i, i below k, whose trace is odd
 --   traceMask f n   the number whose bit i is the trace of x ^ i, i below n
 --
--- In order: the parity of the ones of a number; the bits of the mask; the trace by the mask (`mask-parity`); candidates.
+-- In order: the parity of the ones of a number; the bits of the mask; the trace by the mask (`mask-parity`); leaders.
 -- Assumes nothing.
 use mathlib.Core.Path.{_≡_, refl, sym, ap, _∙_}
 use mathlib.Core.Logic.{⊎-elim}
@@ -15,7 +15,9 @@ use native.Mathlib.Omega.{arith}
 use lib.Arith.{bin-ind}
 use lib.Bits.{bitAnd}
 use lib.Count.{ones, ones-step, ones-cat}
+use lib.Dec.{eqb}
 use lib.Pow.{pow-pos}
+use borrow.Author.Tests.{eqb-false}
 use Rattle.gf2.specs.Poly.{_⊕_, Degree}
 use Rattle.gf2.specs.Numbers.{bitCases, order, mod-two-lt}
 use Rattle.gf2.specs.Bounded.{bool-cases}
@@ -27,9 +29,8 @@ use Rattle.rows.specs.Bits.{bitOf, _∩_, bitOf-⊕, bitOf-lt, bitOf-zero, bitO
 use Rattle.normal.specs.Normal.{normal}
 use Rattle.normal.specs.Coordinates.{normal-means}
 use Rattle.normal.specs.Conjugated.{normal-trace}
-use Rattle.search.specs.Search.{leader, candidateOf}
-use Rattle.search.specs.Walks.{candidate-none, no-leader, not-normal}
-use Rattle.search.specs.declared.answer.Search.the-variants.{Nothing}
+use Rattle.search.specs.Search.{leader, normalLeader}
+use Rattle.search.specs.Walks.{no-leader, not-normal}
 
 unfoldable pub maskTo : (f n k : ℕ) → ℕ
 maskTo f n zero = 0
@@ -123,20 +124,16 @@ module _ (f n : ℕ) (deg : Degree f n) where
         parity-trace a ha
         ∙ ⊎-elim (λ (e : trace f n a ≡ 0). rw e) (λ (e : trace f n a ≡ 1). rw e) (trace-bit f n deg big irr returns a ha)
 
-    -- ---- candidates
+    -- ---- leaders
 
-    not-normal-nothing : normal f n a ≡ false → candidateOf f n a ≡ Nothing
-    not-normal-nothing e =
-        candidate-none f n a
-        (⊎-elim
+    -- a normal element has trace 1: that is needed; whether it is enough, independence decides
+    pub no-trace-not-normal : eqb (trace f n a) 1 ≡ false → normalLeader f n a ≡ false
+    no-trace-not-normal none =
+        ⊎-elim
+        (λ (e : normal f n a ≡ true).
+        absurd (eqb-false (trace f n a) 1 none (normal-trace f n deg big returns a ha irr (normal-means f n a .0 e))))
+        (λ (e : normal f n a ≡ false). ⊎-elim
         (λ (l : leader f n a ≡ true). not-normal f n a l e)
         (λ (l : leader f n a ≡ false). no-leader f n a l)
         (bool-cases (leader f n a)))
-
-    -- a normal element has trace 1: that is needed; whether it is enough, independence decides
-    pub no-trace-no-candidate : (trace f n a ≡ 1 → ⊥) → candidateOf f n a ≡ Nothing
-    no-trace-no-candidate none =
-        ⊎-elim
-        (λ (e : normal f n a ≡ true). absurd (none (normal-trace f n deg big returns a ha irr (normal-means f n a .0 e))))
-        (λ (e : normal f n a ≡ false). not-normal-nothing e)
         (bool-cases (normal f n a))

@@ -8,6 +8,7 @@ use Prim.Native.Nat.{ℕ, zero, suc, _+_, _-_, _≤_, _<_}
 use native.Mathlib.Nat.{le-refl, add-assoc, add-zero, add-suc}
 use native.Mathlib.Omega.{arith}
 use Rattle.gf2.specs.Bounded.{bool-cases}
+use Rattle.rows.specs.Decision.{and-parts}
 use Rattle.normal.specs.Normal.{normal}
 use Rattle.search.specs.Search.{leader, normalLeader, alone, joined, candidateOf, walked, ranged, countOf, counted}
 use Rattle.search.specs.Joined.{joined-nothing, joined-assoc, Answered, nothing, found, joined-answered, joined-count}
@@ -35,6 +36,10 @@ module _ (f n a : ℕ) where
   pub not-normal : leader f n a ≡ true → normal f n a ≡ false → normalLeader f n a ≡ false
   unfolding normalLeader
   not-normal p q = rw (p, q)
+
+  pub leader-is-normal : normalLeader f n a ≡ true → normal f n a ≡ true
+  unfolding normalLeader
+  leader-is-normal e = and-parts (leader f n a) (normal f n a) e .1
 
   candidate-answered : Answered (candidateOf f n a)
   candidate-answered =

@@ -6,6 +6,7 @@ mod searching;
 mod squares;
 mod traces;
 mod units;
+mod walking;
 
 pub use answer::Best;
 pub use answer::Search;

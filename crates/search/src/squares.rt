@@ -40,7 +40,9 @@ pub fn square_sums(spread: &[u16; 256], f: u64, n: u32) -> [u64; BYTE_SUMS]
     requires { ⌜ SpreadTable (now spread) × (n ≤ limit) × Degree f n ⌝ }
     ensures { λ r. ⌜ r ≡ byteSums bytes (squareRows f n) ⌝ }
 {
-    byte_sums(square_rows(spread, f, n))
+    let mut sums: [u64; BYTE_SUMS] = [0; BYTE_SUMS];
+    byte_sums(square_rows(spread, f, n), &mut sums);
+    sums
 }
 
 // The square of y modulo f, from the tables of f.

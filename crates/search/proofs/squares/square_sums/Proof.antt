@@ -13,7 +13,7 @@ byte-sums-requires : tie.Need-byte-sums-requires
 byte-sums-requires c κs = search needs
 
 returns : tie.Need-returns
-returns c = c .byte-sums .ensures ∙ ap (byteSums bytes) (c .before .square-rows .ensures)
+returns c = c .byte-sums .ensures ∙ ap (byteSums bytes) (c .before .before .square-rows .ensures)
 
 pub square-sums-spec : {M : Type 1} → statement M
 square-sums-spec = tie.close (tie.spec square-rows-requires byte-sums-requires returns)
