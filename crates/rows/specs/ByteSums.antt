@@ -54,7 +54,7 @@ sumsFrom-at rows v (suc count) (suc i) h = sumsFrom-at rows (v + 1) count i (ome
 
 -- the first table, and those behind it
 module _ (m : ℕ) (rows : List ℕ) where
-  pub first-at : (b : ℕ) → b < 256 → getD (byteSums (suc m) rows) b 0 ≡ comb rows b
+  first-at : (b : ℕ) → b < 256 → getD (byteSums (suc m) rows) b 0 ≡ comb rows b
   unfolding byteSums
   first-at b h =
       List·getD-append (sumsFrom rows 0 256) (byteSums m (drop 8 rows)) 0 b (rw (sumsFrom-length rows 0 256) h)
