@@ -1,0 +1,154 @@
+// Times NTL at what the desk does, and searches by source document 001's algorithms 2 and 3; one core. Its lines are those of
+// desk.rs, whose answers they have to match:
+//
+//   ntl calls            GF2E multiply and square, IterIrredTest, mat_GF2 inversion, and algorithm 3 with the test of f, which is
+//                        what the desk's build has to do
+//   ntl search SECONDS   the four searches, each of the two ways in ntl/conjugates.h with about so many seconds
+//
+// In ntl/: rounds.h takes times, words.h turns NTL's numbers into words and back, basis.h is algorithm 3, conjugates.h and search.h
+// are algorithm 2.
+#include "ntl/basis.h"
+#include "ntl/conjugates.h"
+#include "ntl/rounds.h"
+#include "ntl/search.h"
+#include "ntl/words.h"
+#include <NTL/GF2E.h>
+#include <NTL/GF2XFactoring.h>
+#include <cstdlib>
+#include <cstring>
+#include <functional>
+
+using namespace bench;
+using NTL::GF2E;
+using NTL::GF2X;
+
+static const word one = 1;
+static const word irreducible = (one << 46) + 3;
+
+static GF2X polynomial(word value) {
+    GF2X f;
+    set(f, value);
+    return f;
+}
+
+// splitmix64 and desk/inputs.rs: the same numbers, drawn in the same order.
+struct Random {
+    word state;
+    word number() {
+        state += 0x9e3779b97f4a7c15;
+        word z = state;
+        z = (z ^ z >> 30) * 0xbf58476d1ce4e5b9;
+        z = (z ^ z >> 27) * 0x94d049bb133111eb;
+        return z ^ z >> 31;
+    }
+    word element() { return number() & ((one << 46) - 1); }
+};
+
+struct Inputs {
+    std::vector<GF2E> a, b;
+    std::vector<word> normal;
+    Inputs() {
+        Random random{46};
+        for (auto *operands : {&a, &b}) {
+            operands->resize(1024);
+            for (GF2E &operand : *operands) set(operand, random.element());
+        }
+        Basis basis(46);
+        while (normal.size() < 16) {
+            const word element = random.element() | one << 45;
+            ByElements conjugates(element);
+            if (basis.complexity(conjugates) != 0) normal.push_back(element);
+        }
+    }
+};
+
+// What desk's build and algorithm 3 take of an element that is not part of a search.
+struct Single {
+    std::vector<GF2E> at;
+    bench::word word(long j) const { return word_of(at[j]); }
+    const GF2E &element() const { return at[0]; }
+    const GF2E &conjugate(long j) const { return at[j]; }
+};
+
+static void run_calls() {
+    const GF2X f = polynomial(irreducible);
+    // x^23 + x^5 + 1 times x^23 + x^9 + 1.
+    const GF2X product = polynomial(one << 23 | 1 << 5 | 1) * polynomial(one << 23 | 1 << 9 | 1);
+    GF2E::init(f);
+    const Inputs inputs;
+    GF2E answer;
+    measure("multiply", 1024, [&](word i) {
+        mul(answer, inputs.a[i % 1024], inputs.b[i % 1024]);
+        return word_of(answer);
+    });
+    measure("square", 1024, [&](word i) {
+        sqr(answer, inputs.a[i % 1024]);
+        return word_of(answer);
+    });
+    // 0 is accepted, 2 the desk's refusal.
+    measure("check-irreducible", 1, [&](word) { return IterIrredTest(f) ? 0 : 2; });
+    measure("check-product", 1, [&](word) { return IterIrredTest(product) ? 0 : 2; });
+    Basis basis(46);
+    measure("build", 16, [&](word i) -> word {
+        if (!IterIrredTest(f)) return 0;
+        Single conjugates{conjugates_of(inputs.normal[i % 16])};
+        return basis.complexity(conjugates);
+    });
+    // An inverse has an inverse, so one matrix will do.
+    const std::vector<GF2E> conjugates = conjugates_of(inputs.normal[0]);
+    for (long i = 0; i < 46; i++) row(basis.conjugates, i) = word_of(conjugates[i]);
+    measure("invert", 2, [&](word) { return basis.invert() ? row(basis.conjugates, 0) : 0; });
+}
+
+struct Search {
+    const char *name;
+    word f;
+    word first;
+    std::vector<long> steps;
+};
+
+// desk/searches.rs says why the ranges at degree 46 are taken in steps.
+static const std::vector<Search> searches = {
+    {"search-16", (one << 16) + 43, 0, {16}},
+    {"search-20", (one << 20) + 9, 0, {20}},
+    {"search-46-from-0", (one << 46) + (one << 45) + 1, 0, {10, 12, 14, 16, 18, 20}},
+    {"search-46-from-2^45", irreducible, one << 45, {10, 12, 14, 16, 18, 20}},
+};
+
+static void run_search(const Search &search, const char *program, Found (*found_in)(word, long), double seconds) {
+    GF2E::init(polynomial(search.f));
+    std::vector<double> times;
+    long done = 0;
+    for (long k : search.steps) {
+        if (!times.empty() && times[0] * 4 > seconds) break;
+        double start = now();
+        const Found found = found_in(search.first, k);
+        times.assign(1, now() - start);
+        done = k;
+        std::printf("answer %s/2^%ld %s %llu %llu %llu\n", search.name, k, program, (unsigned long long)found.element,
+                    (unsigned long long)found.complexity, (unsigned long long)found.count);
+    }
+    if (times[0] * 3 <= seconds) {
+        for (int round = 1; round < 3; round++) {
+            double start = now();
+            used = found_in(search.first, done).count;
+            times.push_back(now() - start);
+        }
+    }
+    std::printf("search %s %s %ld %.1f\n", search.name, program, done, median(times) * 1e9 / double(one << done));
+}
+
+int main(int count, char **words) {
+    if (count == 2 && !std::strcmp(words[1], "calls")) {
+        run_calls();
+    } else if (count == 3 && !std::strcmp(words[1], "search")) {
+        for (const Search &search : searches) {
+            run_search(search, "ntl", bench::search<ByElements>, std::atof(words[2]));
+            run_search(search, "ntl-words", bench::search<ByWords>, std::atof(words[2]));
+        }
+    } else {
+        std::fprintf(stderr, "ntl calls | ntl search SECONDS\n");
+        return 2;
+    }
+    return 0;
+}
