@@ -14,9 +14,10 @@
 #include "ntl/words.h"
 #include <NTL/GF2E.h>
 #include <NTL/GF2XFactoring.h>
+#include <NTL/version.h>
 #include <cstdlib>
 #include <cstring>
-#include <functional>
+#include <vector>
 
 using namespace bench;
 using NTL::GF2E;
@@ -140,6 +141,7 @@ static void run_search(const Search &search, const char *program, Found (*found_
 
 int main(int count, char **words) {
     if (count == 2 && !std::strcmp(words[1], "calls")) {
+        std::printf("version ntl %s\n", NTL_VERSION);
         run_calls();
     } else if (count == 3 && !std::strcmp(words[1], "search")) {
         for (const Search &search : searches) {

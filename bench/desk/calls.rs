@@ -55,8 +55,16 @@ fn sheets(inputs: &Inputs) {
     pair(
         "build",
         SHEETS as u64,
-        &mut |times| fold(times, |i| raw::build(F, normal[at(i)], &mut by_desk).complexity),
-        &mut |times| fold(times, |i| plain::build(F, normal[at(i)], &mut by_plain).complexity),
+        &mut |times| {
+            fold(times, |i| {
+                raw::build(F, normal[at(i)], &mut by_desk).complexity
+            })
+        },
+        &mut |times| {
+            fold(times, |i| {
+                plain::build(F, normal[at(i)], &mut by_plain).complexity
+            })
+        },
     );
     pair(
         "read",

@@ -125,7 +125,10 @@ pub fn run(seconds: f64) {
         for program in programs {
             let k = search.steps[program.done - 1];
             let element = median(program.times) * 1e9 / (1u64 << k) as f64;
-            println!("search {} {} {} {:.1}", search.name, program.name, k, element);
+            println!(
+                "search {} {} {} {:.1}",
+                search.name, program.name, k, element
+            );
         }
     }
 }

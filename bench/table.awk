@@ -1,0 +1,143 @@
+# Makes the tables of docs/BENCHMARKS.md of the lines that desk.rs and ntl.cpp print (desk.rs has their form). A call that was timed
+# in several passes has the median of their times. What a program does not do, or did not run, is a dash.
+
+BEGIN {
+    calls = "multiply square check-irreducible check-product build read convert-one times convert-4096 convert-4096-singly"
+    label["multiply"] = "multiply"
+    label["square"] = "square"
+    label["check-irreducible"] = "check, f irreducible"
+    label["check-product"] = "check, f a product of two of degree 23"
+    label["build"] = "build"
+    label["read"] = "read"
+    label["convert-one"] = "convert one"
+    label["times"] = "times"
+    label["convert-4096"] = "convert 4,096; plain by its list"
+    label["convert-4096-singly"] = "convert 4,096; plain by 4,096 single calls"
+    searches = "search-16 search-20 search-46-from-0 search-46-from-2^45"
+    label["search-16"] = "degree 16, the whole field, f = 2^16+43"
+    label["search-20"] = "degree 20, the whole field, f = 2^20+9"
+    label["search-46-from-0"] = "degree 46, from 0, f = 2^46+2^45+1"
+    label["search-46-from-2^45"] = "degree 46, from 2^45, f = 2^46+3"
+    whole["search-16"] = 16
+    whole["search-20"] = whole["search-46-from-0"] = whole["search-46-from-2^45"] = 20
+}
+
+$1 == "time" {
+    times[$2, $3] = times[$2, $3] " " $4
+}
+
+$1 == "search" {
+    size[$2, $3] = $4
+    rate[$2, $3] = 1e9 / $5
+}
+
+# A search has the answer over its longest part.
+$1 == "answer" && NF == 6 {
+    split($2, part, "/")
+    power = substr(part[2], 3) + 0
+    if (power >= longest[part[1]] + 0) {
+        longest[part[1]] = power
+        answer[part[1]] = $4 ", " $5 ", " $6
+    }
+}
+
+function median(list,    values, count, i, j, value) {
+    count = split(list, values, " ")
+    for (i = 2; i <= count; i++) {
+        value = values[i] + 0
+        for (j = i - 1; j >= 1 && values[j] + 0 > value; j--) values[j + 1] = values[j]
+        values[j + 1] = value
+    }
+    return values[int((count + 1) / 2)] + 0
+}
+
+function time_of(call, program) {
+    return (call, program) in times ? median(times[call, program]) : 0
+}
+
+# Elements a second, 0 where the program did not search.
+function rate_of(search, program) {
+    return (search, program) in rate ? rate[search, program] : 0
+}
+
+function digits(number) {
+    return sprintf(number < 0.1 ? "%.3f" : number < 10 ? "%.2f" : number < 100 ? "%.1f" : "%.0f", number)
+}
+
+function shown_time(nanoseconds) {
+    if (nanoseconds == 0) return "-"
+    if (nanoseconds < 1e3) return digits(nanoseconds) " ns"
+    if (nanoseconds < 1e6) return digits(nanoseconds / 1e3) " µs"
+    return digits(nanoseconds / 1e6) " ms"
+}
+
+function shown_ratio(number, other) {
+    return number == 0 || other == 0 ? "-" : digits(number / other)
+}
+
+function with_commas(number,    text, shown) {
+    text = sprintf("%d", number)
+    for (shown = ""; length(text) > 3; text = substr(text, 1, length(text) - 3)) shown = "," substr(text, length(text) - 2) shown
+    return text shown
+}
+
+# With the part of the range where it was not the whole.
+function shown_rate(search, program) {
+    if (rate_of(search, program) == 0) return "-"
+    return with_commas(rate[search, program]) (size[search, program] < whole[search] ? " (2^" size[search, program] ")" : "")
+}
+
+# What a program searched, and the ratio to it.
+function rate_cells(search, program) {
+    return shown_rate(search, program) " | " shown_ratio(rate_of(search, "desk"), rate_of(search, program))
+}
+
+function call_row(text, desk, plain, ntl) {
+    printf "| %s | %s | %s | %s | %s | %s |\n", text, shown_time(desk), shown_time(plain), shown_ratio(desk, plain), shown_time(ntl),
+        shown_ratio(desk, ntl)
+}
+
+function goal(text, ratio, met) {
+    printf "| %s | %s | %s |\n", text, ratio == 0 ? "-" : digits(ratio), ratio == 0 ? "not measured" : met ? "yes" : "no"
+}
+
+function time_goal(text, call, program, most,    ratio) {
+    ratio = time_of(call, program) == 0 ? 0 : time_of(call, "desk") / time_of(call, program)
+    goal(text, ratio, ratio <= most)
+}
+
+function rate_goal(search, program, name,    ratio) {
+    ratio = rate_of(search, program) == 0 ? 0 : rate_of(search, "desk") / rate_of(search, program)
+    goal("search, " label[search] ": at least 12 times the elements of " name, ratio, ratio >= 12)
+}
+
+END {
+    print "| call | desk | plain | desk : plain | NTL | desk : NTL |"
+    print "|---|---|---|---|---|---|"
+    count = split(calls, list, " ")
+    for (i = 1; i <= count; i++) {
+        call_row(label[list[i]], time_of(list[i], "desk"), time_of(list[i], "plain"), time_of(list[i], "ntl"))
+        if (list[i] == "build") call_row("build; NTL the inversion alone", time_of("build", "desk"), 0, time_of("invert", "ntl"))
+    }
+
+    print "\n| search | desk | plain | desk : plain | NTL | desk : NTL | NTL, words | desk : NTL, words | answer |"
+    print "|---|---|---|---|---|---|---|---|---|"
+    count = split(searches, list, " ")
+    for (i = 1; i <= count; i++) {
+        name = list[i]
+        printf "| %s | %s | %s | %s | %s | %s |\n", label[name], shown_rate(name, "desk"), rate_cells(name, "plain"),
+            rate_cells(name, "ntl"), rate_cells(name, "ntl-words"), answer[name]
+    }
+
+    print "\n| goal | ratio | met |"
+    print "|---|---|---|"
+    time_goal("multiply: at most NTL's time", "multiply", "ntl", 1)
+    time_goal("check, f irreducible: at most 4 times NTL's time", "check-irreducible", "ntl", 4)
+    time_goal("check, f a product: at most 4 times NTL's time", "check-product", "ntl", 4)
+    time_goal("convert 4,096: at most a tenth of 4,096 single conversions in plain", "convert-4096-singly", "plain", 0.1)
+    time_goal("the same, where plain takes the sheet apart once", "convert-4096", "plain", 0.1)
+    for (i = 2; i <= count; i++) {
+        rate_goal(list[i], "ntl", "NTL")
+        rate_goal(list[i], "ntl-words", "NTL, words")
+    }
+}
