@@ -32,6 +32,14 @@ static GF2X polynomial(word value) {
     return f;
 }
 
+// The conjugates of one element, outside a search.
+struct Single {
+    std::vector<GF2E> at;
+    bench::word word(long j) const { return word_of(at[j]); }
+    const GF2E &element() const { return at[0]; }
+    const GF2E &conjugate(long j) const { return at[j]; }
+};
+
 // splitmix64 and desk/inputs.rs: the same numbers, drawn in the same order.
 struct Random {
     word state;
@@ -57,18 +65,10 @@ struct Inputs {
         Basis basis(46);
         while (normal.size() < 16) {
             const word element = random.element() | one << 45;
-            ByElements conjugates(element);
+            Single conjugates{conjugates_of(element)};
             if (basis.complexity(conjugates) != 0) normal.push_back(element);
         }
     }
-};
-
-// What desk's build and algorithm 3 take of an element that is not part of a search.
-struct Single {
-    std::vector<GF2E> at;
-    bench::word word(long j) const { return word_of(at[j]); }
-    const GF2E &element() const { return at[0]; }
-    const GF2E &conjugate(long j) const { return at[j]; }
 };
 
 static void run_calls() {
