@@ -13,3 +13,4 @@ pub mod Orders
 pub mod Searched
 pub mod Units
 pub mod Through
+pub mod Windows

@@ -7,6 +7,7 @@ mod squares;
 mod traces;
 mod units;
 mod walking;
+mod windows;
 
 pub use answer::Best;
 pub use answer::Search;
