@@ -104,10 +104,10 @@ module _ (f n b : ℕ) (sums : List ℕ) (ref : Reference f n b sums) where
           let k : Witnesses n (comb (inverseRows f n b) y) (Vanishes w) = rw (e, coordinates-of) at known in
           through-vanishes w (k .0) (k .1) (k .2)
 
-      pub witness-inverse : (r : ℕ) → x ≡ Inverse r → mulMod (2 ^ n + 1) n r (comb (inverseRows f n b) y) ≡ 1
+      pub witness-inverse : (r : ℕ) → x ≡ Inverse r → (r < 2 ^ n) × (mulMod (2 ^ n + 1) n r (comb (inverseRows f n b) y) ≡ 1)
       witness-inverse r e =
           let k : Witnesses n (comb (inverseRows f n b) y) (Inverse r) = rw (e, coordinates-of) at known in
-          k .1
+          k
 
     module _ (r : ℕ) (unit : mulMod (2 ^ n + 1) n r (comb (inverseRows f n b) y) ≡ 1) where
       pub through-normal : normal f n y ≡ true

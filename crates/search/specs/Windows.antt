@@ -4,6 +4,7 @@
 --
 --   multiplesOf f n a   entry d: a times d, for d below 16
 --   carriesOf f n       entry k: the remainder of k times x ^ n, for k below 16
+--   Carried f n c t     c and t are the carries of f and of t ^ n + 1, which is the number 2 ^ n + 1
 --
 -- In order: the entries; carries are multiples too; a list of sums, from which multiples are made; one turn, and the first and the last.
 -- Assumes nothing.
@@ -30,6 +31,10 @@ multiplesOf f n a = listed 16 (λ d. mulMod f n a d)
 
 unfoldable pub carriesOf : (f n : ℕ) → List ℕ
 carriesOf f n = listed 16 (λ k. rem f n (k * 2 ^ n))
+
+pub record Carried (f n : ℕ) (c t : List ℕ) : Type 0 where
+  pub of-field : c ≡ carriesOf f n
+  pub of-turns : t ≡ carriesOf (2 ^ n + 1) n
 
 -- ---- the entries
 

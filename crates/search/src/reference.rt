@@ -13,13 +13,15 @@ ghost use Rattle.normal.specs.Normal.{inverseRows};
 ghost use Rattle.search.specs.Search.{leader, complexityAt, joined, candidateOf};
 ghost use Rattle.search.specs.Squares.{squareRows};
 ghost use Rattle.search.specs.Through.{Reference, withNext};
+ghost use Rattle.search.specs.Windows.{multiplesOf, Carried};
 ghost use Rattle.search.specs.declared.answer.Search.the-variants.{Found};
 use super::answer::Best;
 use super::squares::square_by_bytes;
 use super::units::Witness;
 use super::units::turn_modulus;
 use super::units::unit_of;
-use gf2::multiply;
+use super::windows::multiples;
+use super::windows::multiply_by;
 use normal::build_basis;
 use normal::complexity_of;
 use normal::grade_of;
@@ -34,14 +36,33 @@ fn both(n: u32, i: u32, ones: u32) -> u32
     if 2 * i == n { ones } else { 2 * ones }
 }
 
-// The coordinates of y times its conjugate c in the basis of b, and times r, which makes them those in the basis of y. The loops of both
-// products are as long as y and r are, so for all conjugates alike.
-fn row_through(sums: &[u64; BYTE_SUMS], f: u64, n: u32, b: u64, y: u64, c: u64, r: u64) -> u64
-    requires { ⌜ Reference f n b (now sums) × (c < 2 ^ n) ⌝ }
+// The coordinates of y times its conjugate c in the basis of b, and times r, which makes them those in the basis of y: ys and rs are the
+// multiples of y and of r.
+fn row_through(
+    sums: &[u64; BYTE_SUMS],
+    carries: &[u64; 16],
+    turns: &[u64; 16],
+    ys: &[u64; 16],
+    rs: &[u64; 16],
+    f: u64,
+    n: u32,
+    b: u64,
+    y: u64,
+    c: u64,
+    r: u64,
+) -> u64
+    requires { ⌜ Reference f n b (now sums) × (c < 2 ^ n) × Carried f n (now carries) (now turns) × (now ys ≡ multiplesOf f n y) × (now rs ≡ multiplesOf (2 ^ n + 1) n r) ⌝ }
     ensures { λ z. ⌜ z ≡ mulMod (2 ^ n + 1) n (comb (inverseRows f n b) (mulMod f n y c)) r ⌝ }
 {
-    let product = multiply(f, n, c, y);
-    multiply(turn_modulus(n), n, sum_by_bytes(sums, product), r)
+    let product = multiply_by(ys, carries, f, n, y, c);
+    multiply_by(
+        rs,
+        turns,
+        turn_modulus(n),
+        n,
+        r,
+        sum_by_bytes(sums, product),
+    )
 }
 
 // The number of ones in the table of y, where r is the inverse of y's coordinates in the basis of b; a count that reaches the bound may be
@@ -49,6 +70,8 @@ fn row_through(sums: &[u64; BYTE_SUMS], f: u64, n: u32, b: u64, y: u64, c: u64, 
 fn complexity_within(
     squares: &[u64; BYTE_SUMS],
     sums: &[u64; BYTE_SUMS],
+    carries: &[u64; 16],
+    turns: &[u64; 16],
     f: u64,
     n: u32,
     b: u64,
@@ -56,9 +79,11 @@ fn complexity_within(
     r: u64,
     bound: u32,
 ) -> u32
-    requires { ⌜ Reference f n b (now sums) × (now squares ≡ byteSums bytes (squareRows f n)) × (y < 2 ^ n) × (mulMod (2 ^ n + 1) n r (comb (inverseRows f n b) y) ≡ 1) ⌝ }
+    requires { ⌜ Reference f n b (now sums) × (now squares ≡ byteSums bytes (squareRows f n)) × (y < 2 ^ n) × (mulMod (2 ^ n + 1) n r (comb (inverseRows f n b) y) ≡ 1) × (r < 2 ^ n) × Carried f n (now carries) (now turns) ⌝ }
     ensures { λ k. ⌜ min bound k ≡ min bound (complexityAt f n y) ⌝ }
 {
+    let ys = multiples(f, n, y);
+    let rs = multiples(turn_modulus(n), n, r);
     let mut count: u32 = 1;
     let mut c = y;
     let mut i: u32 = 0;
@@ -68,7 +93,7 @@ fn complexity_within(
         }
         c = square_by_bytes(squares, f, n, c);
         i += 1;
-        let row = row_through(sums, f, n, b, y, c, r);
+        let row = row_through(sums, carries, turns, &ys, &rs, f, n, b, y, c, r);
         count += both(n, i, u64::count_ones(row));
     }
     count
@@ -116,13 +141,15 @@ pub fn join_through(
     spread: &[u16; 256],
     squares: &[u64; BYTE_SUMS],
     sums: &[u64; BYTE_SUMS],
+    carries: &[u64; 16],
+    turns: &[u64; 16],
     f: u64,
     n: u32,
     b: u64,
     found: Best,
     y: u64,
 ) -> Best
-    requires { ⌜ SpreadTable (now spread) × (now squares ≡ byteSums bytes (squareRows f n)) × Reference f n b (now sums) × (y < 2 ^ n) × (leader f n y ≡ true) × (found .element ≤ y) × (found .count + 1 < 2 ^ 64) ⌝ }
+    requires { ⌜ SpreadTable (now spread) × (now squares ≡ byteSums bytes (squareRows f n)) × Reference f n b (now sums) × (y < 2 ^ n) × (leader f n y ≡ true) × (found .element ≤ y) × (found .count + 1 < 2 ^ 64) × Carried f n (now carries) (now turns) ⌝ }
     ensures { λ r. ⌜ Found r ≡ joined (Found found) (candidateOf f n y) ⌝ }
 {
     let witness = unit_of(n, sum_by_bytes(sums, y));
@@ -133,7 +160,18 @@ pub fn join_through(
             n,
             found,
             y,
-            complexity_within(squares, sums, f, n, b, y, r, found.complexity),
+            complexity_within(
+                squares,
+                sums,
+                carries,
+                turns,
+                f,
+                n,
+                b,
+                y,
+                r,
+                found.complexity,
+            ),
         ),
     }
 }

@@ -12,15 +12,17 @@ use Rattle.gf2.specs.Poly.{mulMod, Degree}
 use Rattle.field.specs.Field.{squared}
 use Rattle.field.specs.Frobenius.{squared-lt, squared-next}
 use Rattle.field.specs.Ring.{mulMod-lt}
+use Rattle.normal.specs.Reference.{turn-degree}
 use Rattle.search.specs.Through.{onesTo, ones-none, ones-turn, ones-whole, ones-bounded}
+use Rattle.search.specs.Windows.{multiplesOf}
 use Rattle.search.proofs.reference.complexity_within.Statement.{statement}
 use Rattle.search.proofs.reference.complexity_within.Tie as tie
 
 abbrev Inv-loop : tie.InvT-loop
-Inv-loop squares sums f n b y r bound count₀ c₀ i₀ count c i = (i ≤ n / 2) × (count ≤ 128 * i + 1) × (c ≡ squared f n i y) × (count ≡ onesTo f n y i)
+Inv-loop squares sums carries turns f n b y r bound ys rs count₀ c₀ i₀ count c i = (i ≤ n / 2) × (count ≤ 128 * i + 1) × (c ≡ squared f n i y) × (count ≡ onesTo f n y i)
 
 abbrev μ-loop : tie.MeasureT-loop
-μ-loop squares sums f n b y r bound count₀ c₀ i₀ count c i = n / 2 - i
+μ-loop squares sums carries turns f n b y r bound ys rs count₀ c₀ i₀ count c i = n / 2 - i
 
 start : (f n y : ℕ) → y ≡ squared f n 0 y
 unfolding squared
@@ -29,49 +31,70 @@ start f n y = refl
 next : (f n : ℕ) → Degree f n → (i y c z : ℕ) → c ≡ squared f n i y → z ≡ mulMod f n c c → z ≡ squared f n (i + 1) y
 next f n deg i y c z e ez = ez ∙ rw (e, add-one) (squared-next f n deg i y)
 
+multiples-requires : tie.Need-multiples-requires Inv-loop μ-loop
+multiples-requires c κs = (c .pre .0 .most, c .pre .0 .is-degree, c .pre .2)
+
+turn-modulus-requires : tie.Need-turn-modulus-requires Inv-loop μ-loop
+turn-modulus-requires c κs = c .before .pre .0 .most
+
+multiples-requires-2 : tie.Need-multiples-requires-2 Inv-loop μ-loop
+multiples-requires-2 c κs =
+    let s = c .before .before in
+    (s .pre .0 .most, rw (c .turn-modulus .ensures) (turn-degree (s .args .n) (omega (arith, s .pre .0 .two))), s .pre .4)
+
 loop-holds : tie.Need-loop-holds Inv-loop μ-loop
-loop-holds c = (omega arith, omega arith, start (c .args .f) (c .args .n) (c .args .y), ones-none (c .args .f) (c .args .n) (c .args .y))
+loop-holds c =
+    let s = c .before .before .before in
+    (omega arith, omega arith, start (s .args .f) (s .args .n) (s .args .y), ones-none (s .args .f) (s .args .n) (s .args .y))
 
 returns : tie.Need-returns Inv-loop μ-loop
 returns c =
     let l = c .before .before in
-    let s = l .before in
+    let s = l .before .before .before .before in
     ones-bounded (s .args .f) (s .args .n) (s .args .b) (s .args .sums .now) (s .pre .0) (s .args .y) (s .pre .2) (s .args .r) (s .pre .3)
     (l .loop .i) (s .args .bound) (l .loop .count) (l .loop .inv .0) (l .loop .inv .3) (c .if1 .taken)
 
-conjugate-lt : (l : tie.At-loop Inv-loop μ-loop) → l .loop .c < 2 ^ l .before .args .n
+conjugate-lt : (l : tie.At-loop Inv-loop μ-loop) → l .loop .c < 2 ^ l .before .before .before .before .args .n
 conjugate-lt l =
-    let s = l .before in
+    let s = l .before .before .before .before in
     rw (l .loop .inv .2) (squared-lt (s .args .f) (s .args .n) (s .pre .0 .is-degree) (l .loop .i) (s .args .y) (s .pre .2))
 
 square-by-bytes-requires : tie.Need-square-by-bytes-requires Inv-loop μ-loop
 square-by-bytes-requires c κs =
     let l = c .before .before in
-    let s = l .before in
+    let s = l .before .before .before .before in
     (s .pre .1, s .pre .0 .most, s .pre .0 .is-degree, conjugate-lt l)
 
 add-i : tie.Need-add-i Inv-loop μ-loop
 add-i c =
     let i = c .before .before in
-    omega (arith, i .loop-test .taken, i .before .before .pre .0 .most)
+    omega (arith, i .loop-test .taken, i .before .before .before .before .before .pre .0 .most)
 
 row-through-requires : tie.Need-row-through-requires Inv-loop μ-loop
 row-through-requires c κs =
-    let l = c .before .before .before in
-    let s = l .before in
-    (s .pre .0, rw (c .square-by-bytes .ensures) (mulMod-lt (s .args .f) (s .args .n) (s .pre .0 .is-degree) (l .loop .c) (l .loop .c)))
+    let q = c .before .before in
+    let l = q .before .before .before in
+    let m = l .before in
+    let t = m .before in
+    let s = t .before .before in (
+      s .pre .0,
+      rw (q .square-by-bytes .ensures) (mulMod-lt (s .args .f) (s .args .n) (s .pre .0 .is-degree) (l .loop .c) (l .loop .c)),
+      s .pre .5,
+      t .before .multiples .ensures,
+      m .multiples2 .ensures ∙ ap (λ (g : ℕ). multiplesOf g (s .args .n) (s .args .r)) (t .turn-modulus .ensures),
+    )
 
 both-requires : tie.Need-both-requires Inv-loop μ-loop
 both-requires c κs =
-    let i = c .before .before .before in
-    let s = i .before .before in
+    let i = c .before .before .before .before .before in
+    let s = i .before .before .before .before .before in
     let h : Fits w64 (c .row-through .result) = search needs in
     (omega (arith, i .loop-test .taken, s .pre .0 .most), ones-le 64 (c .row-through .result) (h .fits))
 
 add-count : tie.Need-add-count Inv-loop μ-loop
 add-count c =
-    let i = c .before .before .before .before in
-    omega (arith, i .loop-test .taken, i .before .before .pre .0 .most, i .before .loop .inv .1, c .both .ensures .1)
+    let i = c .before .before .before .before .before .before in
+    omega (arith, i .loop-test .taken, i .before .before .before .before .before .pre .0 .most, i .before .loop .inv .1, c .both .ensures .1)
 
 loop-less : tie.Need-loop-less Inv-loop μ-loop
 loop-less c = omega arith
@@ -79,10 +102,10 @@ loop-less c = omega arith
 loop-again : tie.Need-loop-again Inv-loop μ-loop
 loop-again c =
     let t = c .before in
-    let q = t .before in
+    let q = t .before .before .before in
     let i = q .before .before in
     let l = i .before in
-    let s = l .before in
+    let s = l .before .before .before .before in
     let e = next (s .args .f) (s .args .n) (s .pre .0 .is-degree) (l .loop .i) (s .args .y) (l .loop .c) (q .square-by-bytes .result) (l .loop .inv .2) (q .square-by-bytes .ensures) in (
       omega (arith, i .loop-test .taken),
       omega (arith, l .loop .inv .1, c .both .ensures .1),
@@ -95,7 +118,7 @@ loop-again c =
 returns-2 : tie.Need-returns-2 Inv-loop μ-loop
 returns-2 c =
     let l = c .before in
-    let s = l .before in
+    let s = l .before .before .before .before in
     ap (min (s .args .bound))
     (l .loop .inv .3
     ∙ ones-whole (s .args .f) (s .args .n) (s .args .b) (s .args .sums .now) (s .pre .0) (s .args .y) (s .pre .2) (s .args .r) (s .pre .3)
@@ -107,6 +130,9 @@ complexity-within-spec =
     (tie.spec
     Inv-loop
     μ-loop
+    multiples-requires
+    turn-modulus-requires
+    multiples-requires-2
     loop-holds
     returns
     square-by-bytes-requires

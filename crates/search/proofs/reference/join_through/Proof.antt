@@ -36,13 +36,11 @@ complexity-within-requires c κs =
     let k = c .before in
     let u = k .before .before in
     let q = u .before in
-    let s = q .before in (
-      s .pre .2,
-      s .pre .1,
-      s .pre .3,
-      witness-inverse (s .args .f) (s .args .n) (s .args .b) (s .args .sums .now) (s .pre .2) (s .args .y) (s .pre .3)
-          (q .sum-by-bytes .result) (q .sum-by-bytes .ensures) (u .unit-of .result) (u .unit-of .ensures) _ (k .witness .given .1),
-    )
+    let s = q .before in
+    let w =
+    witness-inverse (s .args .f) (s .args .n) (s .args .b) (s .args .sums .now) (s .pre .2) (s .args .y) (s .pre .3)
+    (q .sum-by-bytes .result) (q .sum-by-bytes .ensures) (u .unit-of .result) (u .unit-of .ensures) _ (k .witness .given .1) in
+    (s .pre .2, s .pre .1, s .pre .3, w .1, w .0, s .pre .7)
 
 with-next-requires : tie.Need-with-next-requires
 with-next-requires c κs = search needs
@@ -69,7 +67,7 @@ returns-3 c =
     found-next (s .args .f) (s .args .n) (s .args .found) (s .args .y) (s .pre .5) (s .pre .4)
     (through-normal (s .args .f) (s .args .n) (s .args .b) (s .args .sums .now) (s .pre .2) (s .args .y) (s .pre .3) _
     (witness-inverse (s .args .f) (s .args .n) (s .args .b) (s .args .sums .now) (s .pre .2) (s .args .y) (s .pre .3)
-    (q .sum-by-bytes .result) (q .sum-by-bytes .ensures) (u .unit-of .result) (u .unit-of .ensures) _ (k .witness .given .1)))
+    (q .sum-by-bytes .result) (q .sum-by-bytes .ensures) (u .unit-of .result) (u .unit-of .ensures) _ (k .witness .given .1) .1))
     (w .complexity-within .result) (w .complexity-within .ensures) (c .with-next .result) (c .with-next .ensures)
 
 pub join-through-spec : {M : Type 1} → statement M

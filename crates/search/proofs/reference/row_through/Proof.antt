@@ -1,7 +1,7 @@
 -- `search::reference::row_through` meets its contract: what bytes pick is the coordinates in the basis of b.
 -- Assumes nothing.
 use mathlib.Core.Path.{_≡_, ap, ap₂, _∙_}
-use Prim.Native.Nat.{ℕ}
+use Prim.Native.Nat.{ℕ, _+_, _^_}
 use native.Mathlib.Omega.{arith}
 use borrow.Author.Needs.{needs}
 use Rattle.gf2.specs.Poly.{mulMod}
@@ -22,12 +22,14 @@ picked c =
     let s = m .before in
     let ref = s .pre .0 in
     c .sum-by-bytes .ensures
-    ∙ ap (pickedBytes bytes (s .args .sums .now)) (m .multiply .ensures ∙ mulMod-comm (s .args .f) (s .args .n) (ref .is-degree) (s .args .c) (s .args .y))
+    ∙ ap (pickedBytes bytes (s .args .sums .now)) (m .multiply-by .ensures)
     ∙ picked-comb (s .args .f) (s .args .n) (s .args .b) (s .args .sums .now) ref (mulMod (s .args .f) (s .args .n) (s .args .y) (s .args .c))
     (mulMod-lt (s .args .f) (s .args .n) (ref .is-degree) (s .args .y) (s .args .c))
 
-multiply-requires : tie.Need-multiply-requires
-multiply-requires c κs = search needs
+multiply-by-requires : tie.Need-multiply-by-requires
+multiply-by-requires c κs =
+    let ref = c .pre .0 in
+    (c .pre .3, c .pre .2 .of-field, ref .most, ref .is-degree, c .pre .1)
 
 turn-modulus-requires : tie.Need-turn-modulus-requires
 turn-modulus-requires c κs = search needs
@@ -35,12 +37,15 @@ turn-modulus-requires c κs = search needs
 sum-by-bytes-requires : tie.Need-sum-by-bytes-requires
 sum-by-bytes-requires c κs = search needs
 
-multiply-requires-2 : tie.Need-multiply-requires-2
-multiply-requires-2 c κs =
+multiply-by-requires-2 : tie.Need-multiply-by-requires-2
+multiply-by-requires-2 c κs =
     let s = c .before .before .before in
-    let ref = s .pre .0 in (
-      omega (arith, ref .most),
-      rw (c .before .turn-modulus .ensures) (turn-degree (s .args .n) (omega (arith, ref .two))),
+    let ref = s .pre .0 in
+    let e = c .before .turn-modulus .ensures in (
+      rw e (s .pre .4),
+      rw e (s .pre .2 .of-turns),
+      ref .most,
+      rw e (turn-degree (s .args .n) (omega (arith, ref .two))),
       rw (picked c) (coordinates-lt (s .args .f) (s .args .n) (s .args .b) (s .args .sums .now) ref (mulMod (s .args .f) (s .args .n) (s .args .y) (s .args .c))),
     )
 
@@ -48,14 +53,15 @@ returns : tie.Need-returns
 returns c =
     let u = c .before in
     let s = u .before .before .before in
-    c .multiply2 .ensures ∙ ap₂ (λ (g x : ℕ). mulMod g (s .args .n) x (s .args .r)) (u .before .turn-modulus .ensures) (picked u)
+    c .multiply-by2 .ensures ∙ ap₂ (λ (g x : ℕ). mulMod g (s .args .n) (s .args .r) x) (u .before .turn-modulus .ensures) (picked u)
+    ∙ mulMod-comm (2 ^ s .args .n + 1) (s .args .n) (turn-degree (s .args .n) (omega (arith, s .pre .0 .two))) (s .args .r) _
 
 pub row-through-spec : {M : Type 1} → statement M
 row-through-spec =
     tie.close
     (tie.spec
-    multiply-requires
+    multiply-by-requires
     turn-modulus-requires
     sum-by-bytes-requires
-    multiply-requires-2
+    multiply-by-requires-2
     returns)

@@ -58,6 +58,7 @@ join-through-requires c κs =
       sym (l .is-leader .ensures) ∙ not-false (l .is-leader .result) (c .if2 .left),
       s .pre .6,
       omega (arith, s .pre .5, s .pre .7, pow-mono (ref .most)),
+      s .pre .8,
     )
 
 returns-3 : tie.Need-returns-3

@@ -14,11 +14,11 @@ use Rattle.search.proofs.walking.walk_on.Statement.{statement}
 use Rattle.search.proofs.walking.walk_on.Tie as tie
 
 abbrev Inv-loop : tie.InvT-loop
-Inv-loop spread squares sums mask f n b next last found₀ y₀ found y =
+Inv-loop spread squares sums carries turns mask f n b next last found₀ y₀ found y =
     (next ≤ y) × (y ≤ last + 1) × (found .element ≤ y) × (found .count ≤ y) × (Found found ≡ joined (Found found₀) (walked f n next (y - next)))
 
 abbrev μ-loop : tie.MeasureT-loop
-μ-loop spread squares sums mask f n b next last found₀ y₀ found y = last + 1 - y
+μ-loop spread squares sums carries turns mask f n b next last found₀ y₀ found y = last + 1 - y
 
 start : (f n next : ℕ) (x : Best) → Found x ≡ joined (Found x) (walked f n next (next - next))
 start f n next x =
@@ -37,7 +37,7 @@ join-next-requires : tie.Need-join-next-requires Inv-loop μ-loop
 join-next-requires c κs =
     let l = c .before in
     let s = l .before in
-    (s .pre .0, s .pre .1, s .pre .2, s .pre .3, s .pre .4, omega (arith, s .pre .6, c .loop-test .taken), l .loop .inv .2, l .loop .inv .3)
+    (s .pre .0, s .pre .1, s .pre .2, s .pre .3, s .pre .4, omega (arith, s .pre .6, c .loop-test .taken), l .loop .inv .2, l .loop .inv .3, s .pre .9)
 
 add-y : tie.Need-add-y Inv-loop μ-loop
 add-y c =
