@@ -6,25 +6,25 @@
 --   carriesOf f n       entry k: the remainder of k times x ^ n, for k below 16
 --   Carried f n c t     c and t are the carries of f and of t ^ n + 1, which is the number 2 ^ n + 1
 --
--- In order: the entries; carries are multiples too; a list of sums, from which multiples are made; one turn, and the first and the last.
+-- In order: the entries; sums of four of them are all 16; carries are multiples too; one turn, the first and the last.
 -- Assumes nothing.
-use mathlib.Core.Path.{_≡_, refl, sym, ap, ap₂, _∙_}
+use mathlib.Core.Path.{_≡_, sym, ap, _∙_}
 use mathlib.Core.List.{List, [], _∷_}
 use Prim.Native.Nat.{ℕ, _+_, _-_, _*_, _/_, _%_, _^_, _≤_, _<_}
 use native.Mathlib.Nat.{one-mul, div-one, div-eq-of-lt, div-lt-iff-lt-mul, mod-lt, mod-eq-of-lt, sub-add-cancel}
 use native.Mathlib.Omega.{arith}
 use lib.Bits.{bitAnd, bitXor, and-mask}
-use lib.ListN.{length, getD}
+use lib.ListN.{getD}
 use lib.Pow.{pow-pos, pow-mono, shr-shr, split}
 use Rattle.gf2.specs.Poly.{_⊕_, product, rem, mulMod, Degree}
 use Rattle.gf2.specs.Limit.{limit}
 use Rattle.gf2.specs.Numbers.{pow-next}
-use Rattle.gf2.specs.Sum.{⊕-low, ⊕-lt, ⊕-comm, ⊕-cancel}
+use Rattle.gf2.specs.Sum.{⊕-low, ⊕-comm, ⊕-cancel}
 use Rattle.gf2.specs.Product.{product-one-l, product-comm, product-power, product-shift-r, product-⊕-r}
 use Rattle.gf2.specs.Remainder.{rem-small, rem-⊕, rem-unique, rem-product-r, rem-shift, mulMod-zero-r}
-use Rattle.field.specs.Ring.{mulMod-lt, mulMod-comm, mulMod-⊕-r, mulMod-one-l}
+use Rattle.field.specs.Ring.{mulMod-lt}
 use Rattle.normal.specs.Normal.{listed}
-use Rattle.normal.specs.Coordinates.{listed-at, listed-length, listed-ext}
+use Rattle.normal.specs.Coordinates.{listed-at, listed-ext}
 
 unfoldable pub multiplesOf : (f n a : ℕ) → List ℕ
 multiplesOf f n a = listed 16 (λ d. mulMod f n a d)
@@ -46,15 +46,7 @@ pub carries-at : (f n k : ℕ) → k < 16 → getD (carriesOf f n) k 0 ≡ rem f
 unfolding carriesOf
 carries-at f n = listed-at 16 (λ k. rem f n (k * 2 ^ n))
 
-pub multiples-length : (f n a : ℕ) → length (multiplesOf f n a) ≡ 16
-unfolding multiplesOf
-multiples-length f n a = listed-length 16 (λ d. mulMod f n a d)
-
-pub carries-length : (f n : ℕ) → length (carriesOf f n) ≡ 16
-unfolding carriesOf
-carries-length f n = listed-length 16 (λ k. rem f n (k * 2 ^ n))
-
--- the sums of what stands at 1, 2, 4 and 8
+-- all are sums of those at 1, 2, 4 and 8
 pub sums-listed : (g : ℕ → ℕ) → ((x y : ℕ) → g (x ⊕ y) ≡ g x ⊕ g y) → g 0 ≡ 0 → (a b c d : ℕ) → a ≡ g 1 → b ≡ g 2 → c ≡ g 4 → d ≡ g 8
     → (ab cd : ℕ) → ab ≡ bitXor b a → cd ≡ bitXor d c
     → 0 ∷ a ∷ b ∷ ab ∷ c ∷ bitXor c a ∷ bitXor c b ∷ bitXor c ab ∷ d ∷ bitXor d a ∷ bitXor d b ∷ bitXor d ab ∷ cd ∷ bitXor cd a ∷ bitXor cd b ∷ bitXor cd ab ∷ []
@@ -67,7 +59,7 @@ module _ (f n : ℕ) (deg : Degree f n) where
   -- ---- carries
 
   -- f without its term x ^ n
-  pub top-apart : f - 2 ^ n ≡ rem f n (2 ^ n)
+  top-apart : f - 2 ^ n ≡ rem f n (2 ^ n)
   top-apart =
       let rest : ℕ = f - 2 ^ n in
       let high : f < 2 ^ n * 2 = rw pow-next at (deg .high) in

@@ -1,9 +1,8 @@
 -- `search::windows::multiples` meets its contract: products are linear, so all are sums of those by powers of x.
 -- Assumes nothing.
-use mathlib.Core.Path.{_≡_, sym, _∙_}
+use mathlib.Core.Path.{_≡_, refl, sym, _∙_}
 use Prim.Native.Nat.{ℕ, _^_, _<_}
 use borrow.Author.Needs.{needs}
-use mathlib.Core.Path.{refl}
 use Rattle.gf2.specs.Poly.{mulMod, Degree}
 use Rattle.gf2.specs.Remainder.{mulMod-zero-r}
 use Rattle.field.specs.Ring.{mulMod-comm, mulMod-one-l, mulMod-⊕-r}

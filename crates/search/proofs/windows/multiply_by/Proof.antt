@@ -1,11 +1,9 @@
 -- `search::windows::multiply_by` meets its contract. The invariant: the sum is the product of a and what stands from k upward in b. The measure
 -- is k. Assumes nothing.
-use mathlib.Core.Path.{_≡_, ap, _∙_}
-use Prim.Native.Nat.{ℕ, _/_, _%_, _^_, _≤_}
+use mathlib.Core.Path.{_≡_}
+use Prim.Native.Nat.{_/_, _%_, _^_, _≤_}
 use native.Mathlib.Omega.{arith}
-use lib.ListN.{length}
 use lib.Pow.{pow-pos}
-use borrow.Author.Needs.{needs}
 use Rattle.gf2.specs.Poly.{mulMod}
 use Rattle.search.specs.Windows.{window-first, window-step, window-last}
 use Rattle.search.proofs.windows.multiply_by.Statement.{statement}
