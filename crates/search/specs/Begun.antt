@@ -6,10 +6,9 @@
 -- In order: the first part, turn by turn, and what it leaves of the range; the second part, turn by turn, with the bounds that its turns need;
 -- the rows of a built basis.
 -- Assumes nothing.
-use mathlib.Core.Path.{_≡_, refl, sym, ap, ap₂, _∙_}
+use mathlib.Core.Path.{_≡_, sym, ap, ap₂, _∙_}
 use mathlib.Core.Logic.{⊎-elim}
-use mathlib.Core.Bool.{Bool, true, false, cond}
-use mathlib.Core.List.{List}
+use mathlib.Core.Bool.{true, false}
 use Prim.Native.Nat.{ℕ, suc, _+_, _-_, _≤_, _<_}
 use native.Mathlib.Omega.{arith}
 use Rattle.gf2.specs.Bounded.{bool-cases}
@@ -17,8 +16,8 @@ use Rattle.normal.specs.Normal.{normal, inverseRows, padded}
 use Rattle.normal.specs.Basis.{builtOf}
 use Rattle.normal.specs.Grades.{gradeOf}
 use Rattle.normal.specs.declared.basis.Built.{Built}
-use Rattle.search.specs.Search.{normalLeader, precedes, better, alone, joined, candidateOf, walked, ranged}
-use Rattle.search.specs.Joined.{before, better-right, better-left, joined-nothing, nothing-joined, joined-assoc}
+use Rattle.search.specs.Search.{normalLeader, better, alone, joined, candidateOf, walked, ranged}
+use Rattle.search.specs.Joined.{before, better-right, better-left, nothing-joined, joined-assoc}
 use Rattle.search.specs.Walks.{candidate-is, candidate-none, walked-none, walked-next, walked-cut}
 use Rattle.search.specs.declared.answer.Best.{Best}
 use Rattle.search.specs.declared.answer.Search.{Search}

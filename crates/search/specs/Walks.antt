@@ -3,9 +3,9 @@
 -- Assumes nothing.
 use mathlib.Core.Path.{_≡_, refl, sym, ap, ap₂, _∙_}
 use mathlib.Core.Logic.{⊎-elim}
-use mathlib.Core.Bool.{Bool, true, false, cond}
+use mathlib.Core.Bool.{true, false, cond}
 use Prim.Native.Nat.{ℕ, zero, suc, _+_, _-_, _≤_, _<_}
-use native.Mathlib.Nat.{le-refl, add-assoc, add-zero, add-suc}
+use native.Mathlib.Nat.{add-assoc, add-zero, add-suc}
 use native.Mathlib.Omega.{arith}
 use Rattle.gf2.specs.Bounded.{bool-cases}
 use Rattle.rows.specs.Decision.{and-parts}
@@ -56,13 +56,6 @@ module _ (f n a : ℕ) where
       (λ (e : normalLeader f n a ≡ false). rw (candidate-none e, e))
       (bool-cases (normalLeader f n a))
 
-  pub candidate-le : countOf (candidateOf f n a) ≤ 1
-  candidate-le =
-      ⊎-elim
-      (λ (e : normalLeader f n a ≡ true). rw (candidate-count, e) (le-refl 1))
-      (λ (e : normalLeader f n a ≡ false). rw (candidate-count, e) (omega arith))
-      (bool-cases (normalLeader f n a))
-
 -- ---- the walk
 
 module _ (f n first : ℕ) where
@@ -95,15 +88,6 @@ module _ (f n first : ℕ) where
   walked-count zero = refl
   walked-count (suc k) =
       joined-count (walked-answered k) (candidate-answered f n (first + k)) ∙ ap₂ _+_ (walked-count k) (candidate-count f n (first + k))
-
-pub counted-le : (first k : ℕ) (t : ℕ → Bool) → counted first k t ≤ k
-unfolding counted
-counted-le first zero t = le-refl 0
-counted-le first (suc k) t =
-    ⊎-elim
-    (λ (e : t (first + k) ≡ true). rw e (omega (arith, counted-le first k t)))
-    (λ (e : t (first + k) ≡ false). rw e (omega (arith, counted-le first k t)))
-    (bool-cases (t (first + k)))
 
 -- ---- from first to last
 

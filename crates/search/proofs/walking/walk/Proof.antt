@@ -16,7 +16,7 @@ use Rattle.normal.specs.Normal.{normal, complexity}
 use Rattle.normal.specs.Basis.{builtOf}
 use Rattle.normal.specs.Reference.{turn-degree}
 use Rattle.normal.specs.declared.basis.Built.{Built}
-use Rattle.search.specs.Search.{normalLeader, alone, joined, walked, ranged}
+use Rattle.search.specs.Search.{joined, walked, ranged}
 use Rattle.search.specs.Walks.{leader-is-normal}
 use Rattle.search.specs.Through.{Reference, built-complexity}
 use Rattle.search.specs.Begun.{FirstFrom, aloneBy, begun-nothing, begun-found, built-inverse}
