@@ -51,11 +51,8 @@ fn sheet_command_of(word: &[u8]) -> Command {
     }
 }
 
-// The command that a word names. No word at all asks for help.
+// The command that a word names.
 pub(crate) fn command_of(word: &[u8]) -> Command {
-    if word.len() == 0 {
-        return Command::Help;
-    }
     if same(word, b"help") {
         return Command::Help;
     }

@@ -21,7 +21,7 @@ enum Notation {
 // The place of the first value on the command line.
 const FIRST_VALUE: usize = 3;
 
-// How many values the command line has, none of more than there is space for; 0 where it has none or too many, and a line has said so.
+// How many values the command line has; 0 where it has none, or more than there is space for, and a line has said so.
 fn value_count(usage: &[u8], space: &[u64]) -> usize
     ensures { λ r. ⌜ Counts r (now (space .entry)) ⌝ }
 {

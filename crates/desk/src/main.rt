@@ -32,7 +32,12 @@ fn run(command: Command) {
     }
 }
 
+// The first word names the command. No word at all asks for help.
 fn main() {
+    if os::arg_count() < 2 {
+        help::print_help();
+        return;
+    }
     let mut space = input::word_space();
     let size = os::arg(1, &mut space);
     run(command_of(&space[..size]));

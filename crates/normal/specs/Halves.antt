@@ -191,7 +191,7 @@ module _ (f n : ℕ) (deg : Degree f n) (big : 2 ≤ n) (returns : squared f n n
       complexity-rest
       ∙ ap (λ (x : ℕ). 1 + x) (halved (λ i. ones (getD (tableRows f n a) i 0)) n rows-mirrored (omega arith))
 
-  -- a count of the first k rows, for breaking off
+  -- what is counted after rows 0 to k, with their mirrors, for breaking off
   pub complexity-least : (k : ℕ) → k ≤ n / 2 → 1 + halvesTo (λ i. ones (getD (tableRows f n a) i 0)) n k ≤ complexity (tableRows f n a)
   complexity-least k h =
       omega (arith, complexity-halved, halvesTo-mono (λ i. ones (getD (tableRows f n a) i 0)) n k (n / 2) h)

@@ -1,5 +1,5 @@
--- Uniqueness, as in Demand1, for the calls that other languages and the command line use: the exports for C and Rust, in the order of their
--- header, and what number a word means.
+-- Uniqueness, as in Demand1, for the calls that other languages and the command line use: the exports for C and Rust, and what number a
+-- word means.
 -- Assumes nothing.
 use mathlib.Core.Path.{_≡_, sym, _∙_}
 use borrow.Fn.Kinds.{Dens, resT, endedOf}

@@ -1,4 +1,5 @@
--- Matrices of bits as lists of rows: definitions in `Rows`, and in `ByteSums` those of sums by bytes; laws in the rest.
+-- Matrices of bits as lists of rows: definitions in `Rows`, and in `ByteSums` those of sums by bytes; the other files have laws, and open with what
+-- they define.
 pub mod Rows
 pub mod Linear
 pub mod Sums

@@ -1,4 +1,4 @@
--- The search of a range: definitions in `Search` and `Answers`, laws in the rest.
+-- The search of a range: definitions in `Search`, `Answers` and `Units`; the other files have laws, and open with what they define.
 pub mod Search
 pub mod Answers
 pub mod Begun

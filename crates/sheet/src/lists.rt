@@ -27,7 +27,7 @@ use rows::sum_by_bytes;
 pub const LIST_LIMIT: usize = 4096;
 
 // The number of values from which on the sums are taken from tables. Making the tables takes as long as summing bit by bit takes for a dozen
-// values at degree 46, and for so many at degree 10.
+// values at degree 46, for 48 at degree 10, and for more at smaller degrees.
 const TABLES_PAY: usize = 48;
 
 // The index of the first value that is 2^n or more, or the number of values.

@@ -1,6 +1,7 @@
 -- What `parts` means: it is the one way to cut a word into parts that hold no colon.
 --
 --   Plain part      no byte of it is a colon
+--   followed split  each part with a colon before it
 --   joined split    the parts with one colon between
 --
 -- Assumes nothing.

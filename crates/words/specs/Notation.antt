@@ -6,15 +6,19 @@
 --
 -- The value is below 2 ^ 64, and any other word is unclear. `46:1:0` means 2 ^ 46 + 2 ^ 1 + 2 ^ 0.
 --
+--   among first last byte    the byte is one of those from first to last
 --   worth byte               what a byte is worth as a digit; 16, which no base here has, where it is none
 --   digitsOnly base word     every byte is a digit of the base
+--   valueAfter base v word   the number that v and the digits after it spell
 --   value base word          the number that the digits spell, the highest first
 --   spells base bound word   the word is one or more digits, with a value below the bound
 --   numberIn base bound w    that value; any other word is unclear
 --   marked word              the word begins with `0x`
 --   numberOf word            what a word means as a number
+--   colon, ahead byte split  the mark between exponents; one more byte before the first part
 --   parts word               the parts between the colons
 --   exponent part            the part is a decimal number below 64
+--   everyExponent split      every part is one
 --   falling es               each is smaller than the one before
 --   powers es                the sum of the powers of two with these exponents
 --   exponentsOf split        what the parts mean as exponents

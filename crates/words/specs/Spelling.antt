@@ -1,4 +1,7 @@
 -- Words that spell a number: what such a word has, a smaller bound, and the mark 0x.
+--
+--   Spells base bound word   what `spells` tests, one by one
+--
 -- Assumes nothing.
 use mathlib.Core.Path.{_≡_, refl, sym, _∙_}
 use mathlib.Core.Bool.{Bool, true, false, cond, _&&_, and-false}
