@@ -14,3 +14,4 @@ pub mod Searched
 pub mod Units
 pub mod Through
 pub mod Windows
+pub mod Upper

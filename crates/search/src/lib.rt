@@ -6,6 +6,7 @@ mod searching;
 mod squares;
 mod traces;
 mod units;
+mod upper;
 mod walking;
 mod windows;
 

@@ -13,7 +13,8 @@ ghost use Rattle.normal.specs.Normal.{inverseRows};
 ghost use Rattle.search.specs.Search.{leader, complexityAt, joined, candidateOf};
 ghost use Rattle.search.specs.Squares.{squareRows};
 ghost use Rattle.search.specs.Through.{Reference, withNext};
-ghost use Rattle.search.specs.Windows.{multiplesOf, Carried};
+ghost use Rattle.search.specs.Upper.{upperRows};
+ghost use Rattle.search.specs.Windows.{multiplesOf};
 ghost use Rattle.search.specs.declared.answer.Search.the-variants.{Found};
 use super::answer::Best;
 use super::squares::square_by_bytes;
@@ -21,7 +22,8 @@ use super::units::Witness;
 use super::units::turn_modulus;
 use super::units::unit_of;
 use super::windows::multiples;
-use super::windows::multiply_by;
+use super::windows::turned_product;
+use super::windows::wide_product;
 use normal::build_basis;
 use normal::complexity_of;
 use normal::grade_of;
@@ -40,8 +42,7 @@ fn both(n: u32, i: u32, ones: u32) -> u32
 // multiples of y and of r.
 fn row_through(
     sums: &[u64; BYTE_SUMS],
-    carries: &[u64; 16],
-    turns: &[u64; 16],
+    uppers: &[u64; BYTE_SUMS],
     ys: &[u64; 16],
     rs: &[u64; 16],
     f: u64,
@@ -51,18 +52,12 @@ fn row_through(
     c: u64,
     r: u64,
 ) -> u64
-    requires { ⌜ Reference f n b (now sums) × (c < 2 ^ n) × Carried f n (now carries) (now turns) × (now ys ≡ multiplesOf f n y) × (now rs ≡ multiplesOf (2 ^ n + 1) n r) ⌝ }
+    requires { ⌜ Reference f n b (now sums) × (now uppers ≡ byteSums bytes (upperRows f n b)) × (c < 2 ^ n) × (now ys ≡ multiplesOf f n y) × (now rs ≡ multiplesOf (2 ^ n + 1) n r) ⌝ }
     ensures { λ z. ⌜ z ≡ mulMod (2 ^ n + 1) n (comb (inverseRows f n b) (mulMod f n y c)) r ⌝ }
 {
-    let product = multiply_by(ys, carries, f, n, y, c);
-    multiply_by(
-        rs,
-        turns,
-        turn_modulus(n),
-        n,
-        r,
-        sum_by_bytes(sums, product),
-    )
+    let wide = wide_product(ys, f, n, y, c);
+    let v = sum_by_bytes(sums, wide.low) ^ sum_by_bytes(uppers, wide.high);
+    turned_product(rs, n, r, v)
 }
 
 // The number of ones in the table of y, where r is the inverse of y's coordinates in the basis of b; a count that reaches the bound may be
@@ -70,8 +65,7 @@ fn row_through(
 fn complexity_within(
     squares: &[u64; BYTE_SUMS],
     sums: &[u64; BYTE_SUMS],
-    carries: &[u64; 16],
-    turns: &[u64; 16],
+    uppers: &[u64; BYTE_SUMS],
     f: u64,
     n: u32,
     b: u64,
@@ -79,7 +73,7 @@ fn complexity_within(
     r: u64,
     bound: u32,
 ) -> u32
-    requires { ⌜ Reference f n b (now sums) × (now squares ≡ byteSums bytes (squareRows f n)) × (y < 2 ^ n) × (mulMod (2 ^ n + 1) n r (comb (inverseRows f n b) y) ≡ 1) × (r < 2 ^ n) × Carried f n (now carries) (now turns) ⌝ }
+    requires { ⌜ Reference f n b (now sums) × (now uppers ≡ byteSums bytes (upperRows f n b)) × (now squares ≡ byteSums bytes (squareRows f n)) × (y < 2 ^ n) × (mulMod (2 ^ n + 1) n r (comb (inverseRows f n b) y) ≡ 1) × (r < 2 ^ n) ⌝ }
     ensures { λ k. ⌜ min bound k ≡ min bound (complexityAt f n y) ⌝ }
 {
     let ys = multiples(f, n, y);
@@ -93,7 +87,7 @@ fn complexity_within(
         }
         c = square_by_bytes(squares, f, n, c);
         i += 1;
-        let row = row_through(sums, carries, turns, &ys, &rs, f, n, b, y, c, r);
+        let row = row_through(sums, uppers, &ys, &rs, f, n, b, y, c, r);
         count += both(n, i, u64::count_ones(row));
     }
     count
@@ -141,15 +135,14 @@ pub fn join_through(
     spread: &[u16; 256],
     squares: &[u64; BYTE_SUMS],
     sums: &[u64; BYTE_SUMS],
-    carries: &[u64; 16],
-    turns: &[u64; 16],
+    uppers: &[u64; BYTE_SUMS],
     f: u64,
     n: u32,
     b: u64,
     found: Best,
     y: u64,
 ) -> Best
-    requires { ⌜ SpreadTable (now spread) × (now squares ≡ byteSums bytes (squareRows f n)) × Reference f n b (now sums) × (y < 2 ^ n) × (leader f n y ≡ true) × (found .element ≤ y) × (found .count + 1 < 2 ^ 64) × Carried f n (now carries) (now turns) ⌝ }
+    requires { ⌜ SpreadTable (now spread) × (now squares ≡ byteSums bytes (squareRows f n)) × Reference f n b (now sums) × (now uppers ≡ byteSums bytes (upperRows f n b)) × (y < 2 ^ n) × (leader f n y ≡ true) × (found .element ≤ y) × (found .count + 1 < 2 ^ 64) ⌝ }
     ensures { λ r. ⌜ Found r ≡ joined (Found found) (candidateOf f n y) ⌝ }
 {
     let witness = unit_of(n, sum_by_bytes(sums, y));
@@ -160,18 +153,7 @@ pub fn join_through(
             n,
             found,
             y,
-            complexity_within(
-                squares,
-                sums,
-                carries,
-                turns,
-                f,
-                n,
-                b,
-                y,
-                r,
-                found.complexity,
-            ),
+            complexity_within(squares, sums, uppers, f, n, b, y, r, found.complexity),
         ),
     }
 }

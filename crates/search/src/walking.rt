@@ -13,7 +13,7 @@ ghost use Rattle.search.specs.Search.{normalLeader, joined, candidateOf,
 ghost use Rattle.search.specs.Squares.{squareRows};
 ghost use Rattle.search.specs.Traces.{traceMask};
 ghost use Rattle.search.specs.Through.{Reference};
-ghost use Rattle.search.specs.Windows.{Carried};
+ghost use Rattle.search.specs.Upper.{upperRows};
 ghost use Rattle.search.specs.Begun.{FirstFrom, aloneBy};
 ghost use Rattle.search.specs.declared.answer.Search.the-variants.{Found};
 use super::answer::Best;
@@ -23,8 +23,7 @@ use super::reference::join_through;
 use super::squares::square_sums;
 use super::traces::has_trace;
 use super::traces::trace_mask;
-use super::units::turn_modulus;
-use super::windows::carries;
+use super::upper::upper_sums;
 use gf2::LIMIT;
 use normal::build_basis;
 use normal::complexity_of;
@@ -82,8 +81,7 @@ fn join_next(
     spread: &[u16; 256],
     squares: &[u64; BYTE_SUMS],
     sums: &[u64; BYTE_SUMS],
-    carries: &[u64; 16],
-    turns: &[u64; 16],
+    uppers: &[u64; BYTE_SUMS],
     mask: u64,
     f: u64,
     n: u32,
@@ -91,7 +89,7 @@ fn join_next(
     found: Best,
     a: u64,
 ) -> Best
-    requires { ⌜ SpreadTable (now spread) × (now squares ≡ byteSums bytes (squareRows f n)) × Reference f n b (now sums) × (mask ≡ traceMask f n) × Irreducible f × (a < 2 ^ n) × (found .element ≤ a) × (found .count ≤ a) × Carried f n (now carries) (now turns) ⌝ }
+    requires { ⌜ SpreadTable (now spread) × (now squares ≡ byteSums bytes (squareRows f n)) × Reference f n b (now sums) × (now uppers ≡ byteSums bytes (upperRows f n b)) × (mask ≡ traceMask f n) × Irreducible f × (a < 2 ^ n) × (found .element ≤ a) × (found .count ≤ a) ⌝ }
     ensures { λ r. ⌜ Found r ≡ joined (Found found) (candidateOf f n a) ⌝ }
 {
     if !has_trace(mask, f, n, a) {
@@ -100,7 +98,7 @@ fn join_next(
     if !is_leader(squares, f, n, a) {
         return found;
     }
-    join_through(spread, squares, sums, carries, turns, f, n, b, found, a)
+    join_through(spread, squares, sums, uppers, f, n, b, found, a)
 }
 
 // What is found, joined with the elements from next to last.
@@ -108,8 +106,7 @@ fn walk_on(
     spread: &[u16; 256],
     squares: &[u64; BYTE_SUMS],
     sums: &[u64; BYTE_SUMS],
-    carries: &[u64; 16],
-    turns: &[u64; 16],
+    uppers: &[u64; BYTE_SUMS],
     mask: u64,
     f: u64,
     n: u32,
@@ -118,25 +115,13 @@ fn walk_on(
     next: u64,
     last: u64,
 ) -> Best
-    requires { ⌜ SpreadTable (now spread) × (now squares ≡ byteSums bytes (squareRows f n)) × Reference f n b (now sums) × (mask ≡ traceMask f n) × Irreducible f × (next ≤ last + 1) × (last < 2 ^ n) × (start .element ≤ next) × (start .count ≤ next) × Carried f n (now carries) (now turns) ⌝ }
+    requires { ⌜ SpreadTable (now spread) × (now squares ≡ byteSums bytes (squareRows f n)) × Reference f n b (now sums) × (now uppers ≡ byteSums bytes (upperRows f n b)) × (mask ≡ traceMask f n) × Irreducible f × (next ≤ last + 1) × (last < 2 ^ n) × (start .element ≤ next) × (start .count ≤ next) ⌝ }
     ensures { λ r. ⌜ Found r ≡ joined (Found start) (walked f n next (last + 1 - next)) ⌝ }
 {
     let mut found = start;
     let mut y = next;
     while y <= last {
-        let more = join_next(
-            spread,
-            squares,
-            sums,
-            carries,
-            turns,
-            mask,
-            f,
-            n,
-            b,
-            found,
-            y,
-        );
+        let more = join_next(spread, squares, sums, uppers, mask, f, n, b, found, y);
         found = more;
         y += 1;
     }
@@ -174,15 +159,13 @@ pub fn walk(spread: &[u16; 256], f: u64, n: u32, first: u64, last: u64) -> Searc
     let table = built.basis.table;
     let mut sums: [u64; BYTE_SUMS] = [0; BYTE_SUMS];
     byte_sums(inverse, &mut sums);
-    let carried = carries(f, n);
-    let turned = carries(turn_modulus(n), n);
+    let uppers = upper_sums(&sums, f, n, b);
     let start = alone(n, b, table);
     Search::Found(walk_on(
         spread,
         &squares,
         &sums,
-        &carried,
-        &turned,
+        &uppers,
         mask,
         f,
         n,

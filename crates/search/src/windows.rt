@@ -1,12 +1,19 @@
-// Products modulo one f with one a by windows of four bits: the 16 products of a by numbers below 16 are made once, and each product is then
-// one turn for each window of the other operand, where gf2's is one for each bit.
+// Products with one a by windows of four bits: the 16 products of a by numbers below 16 are made once, and each product is then one lookup
+// for each window of the other operand, where gf2's is one turn for each bit.
 ghost use mathlib.Core.Path.{_≡_};
-ghost use Prim.Native.Nat.{_^_, _≤_, _<_};
+ghost use Prim.Native.Nat.{_+_, _^_, _≤_, _<_};
 ghost use Rattle.gf2.specs.Poly.{mulMod, Degree};
 ghost use Rattle.gf2.specs.Limit.{limit};
-ghost use Rattle.search.specs.Windows.{multiplesOf, carriesOf};
+ghost use Rattle.search.specs.Windows.{multiplesOf, fourWindows, Unreduced};
 use super::squares::power_of_x;
+use super::units::turn_modulus;
 use gf2::multiply;
+
+// A polynomial of degree below 2n: low + high x^n.
+pub struct Wide {
+    pub low: u64,
+    pub high: u64,
+}
 
 // The products of a by the numbers below 16, as sums of those by x^0 to x^3.
 pub fn multiples(f: u64, n: u32, a: u64) -> [u64; 16]
@@ -38,34 +45,39 @@ pub fn multiples(f: u64, n: u32, a: u64) -> [u64; 16]
     ]
 }
 
-// What four bits above x^(n-1) come to: the multiples of f without its term x^n.
-pub fn carries(f: u64, n: u32) -> [u64; 16]
-    requires { ⌜ (n ≤ limit) × Degree f n ⌝ }
-    ensures { λ r. ⌜ r ≡ carriesOf f n ⌝ }
+// The sum of the multiples that the lowest four windows of w pick, each moved to its place. It is not reduced.
+fn four_windows(multiples: &[u64; 16], w: u64) -> u64
+    ensures { λ r. ⌜ r ≡ fourWindows (now (multiples .entry)) w ⌝ }
 {
-    multiples(f, n, f - power_of_x(n as usize))
+    multiples[(w % 16) as usize]
+        ^ (multiples[((w >> 4) % 16) as usize] << 4)
+        ^ (multiples[((w >> 8) % 16) as usize] << 8)
+        ^ (multiples[((w >> 12) % 16) as usize] << 12)
 }
 
-// The product of a and b modulo f, from the multiples of a and the carries of f: b's windows are taken from the highest.
-pub fn multiply_by(
-    multiples: &[u64; 16],
-    carries: &[u64; 16],
-    f: u64,
-    n: u32,
-    a: u64,
-    b: u64,
-) -> u64
-    requires { ⌜ (now multiples ≡ multiplesOf f n a) × (now carries ≡ carriesOf f n) × (n ≤ limit) × Degree f n × (b < 2 ^ n) ⌝ }
-    ensures { λ r. ⌜ r ≡ mulMod f n a b ⌝ }
+// The product of a and b, not reduced, from the multiples of a. No turn waits for the one before it, as it would if each reduced.
+pub fn wide_product(multiples: &[u64; 16], f: u64, n: u32, a: u64, b: u64) -> Wide
+    requires { ⌜ (now multiples ≡ multiplesOf f n a) × (n ≤ limit) × Degree f n × (b < 2 ^ n) ⌝ }
+    ensures { λ r. ⌜ Unreduced f n a b (r .low) (r .high) ⌝ }
 {
     let mask = power_of_x(n as usize) - 1;
-    let mut sum: u64 = 0;
-    let mut k = (n + 3) / 4 * 4;
-    while k > 0 {
-        k -= 4;
-        let moved = sum << 4;
-        let carry = carries[((moved >> n) % 16) as usize];
-        sum = (moved & mask) ^ carry ^ multiples[((b >> k) % 16) as usize];
+    let mut low: u64 = 0;
+    let mut high: u64 = 0;
+    let mut k: u32 = 0;
+    while k < n {
+        let part = four_windows(multiples, b >> k);
+        low = low ^ ((part << k) & mask);
+        high = high ^ (part >> (n - k));
+        k += 16;
     }
-    sum
+    Wide { low, high }
+}
+
+// The product of r and v modulo t^n + 1, from the multiples of r: t^n is 1.
+pub fn turned_product(multiples: &[u64; 16], n: u32, r: u64, v: u64) -> u64
+    requires { ⌜ (now multiples ≡ multiplesOf (2 ^ n + 1) n r) × (1 ≤ n) × (n ≤ limit) × (v < 2 ^ n) ⌝ }
+    ensures { λ z. ⌜ z ≡ mulMod (2 ^ n + 1) n r v ⌝ }
+{
+    let wide = wide_product(multiples, turn_modulus(n), n, r, v);
+    wide.low ^ wide.high
 }

@@ -19,10 +19,10 @@ use Rattle.search.proofs.reference.complexity_within.Statement.{stateme
 use Rattle.search.proofs.reference.complexity_within.Tie as tie
 
 abbrev Inv-loop : tie.InvT-loop
-Inv-loop squares sums carries turns f n b y r bound ys rs count₀ c₀ i₀ count c i = (i ≤ n / 2) × (count ≤ 128 * i + 1) × (c ≡ squared f n i y) × (count ≡ onesTo f n y i)
+Inv-loop squares sums uppers f n b y r bound ys rs count₀ c₀ i₀ count c i = (i ≤ n / 2) × (count ≤ 128 * i + 1) × (c ≡ squared f n i y) × (count ≡ onesTo f n y i)
 
 abbrev μ-loop : tie.MeasureT-loop
-μ-loop squares sums carries turns f n b y r bound ys rs count₀ c₀ i₀ count c i = n / 2 - i
+μ-loop squares sums uppers f n b y r bound ys rs count₀ c₀ i₀ count c i = n / 2 - i
 
 start : (f n y : ℕ) → y ≡ squared f n 0 y
 unfolding squared
@@ -32,7 +32,7 @@ next : (f n : ℕ) → Degree f n → (i y c z : ℕ) → c ≡ squared f n i y 
 next f n deg i y c z e ez = ez ∙ rw (e, add-one) (squared-next f n deg i y)
 
 multiples-requires : tie.Need-multiples-requires Inv-loop μ-loop
-multiples-requires c κs = (c .pre .0 .most, c .pre .0 .is-degree, c .pre .2)
+multiples-requires c κs = (c .pre .0 .most, c .pre .0 .is-degree, c .pre .3)
 
 turn-modulus-requires : tie.Need-turn-modulus-requires Inv-loop μ-loop
 turn-modulus-requires c κs = c .before .pre .0 .most
@@ -40,7 +40,7 @@ turn-modulus-requires c κs = c .before .pre .0 .most
 multiples-requires-2 : tie.Need-multiples-requires-2 Inv-loop μ-loop
 multiples-requires-2 c κs =
     let s = c .before .before in
-    (s .pre .0 .most, rw (c .turn-modulus .ensures) (turn-degree (s .args .n) (omega (arith, s .pre .0 .two))), s .pre .4)
+    (s .pre .0 .most, rw (c .turn-modulus .ensures) (turn-degree (s .args .n) (omega (arith, s .pre .0 .two))), s .pre .5)
 
 loop-holds : tie.Need-loop-holds Inv-loop μ-loop
 loop-holds c =
@@ -51,19 +51,19 @@ returns : tie.Need-returns Inv-loop μ-loop
 returns c =
     let l = c .before .before in
     let s = l .before .before .before .before in
-    ones-bounded (s .args .f) (s .args .n) (s .args .b) (s .args .sums .now) (s .pre .0) (s .args .y) (s .pre .2) (s .args .r) (s .pre .3)
+    ones-bounded (s .args .f) (s .args .n) (s .args .b) (s .args .sums .now) (s .pre .0) (s .args .y) (s .pre .3) (s .args .r) (s .pre .4)
     (l .loop .i) (s .args .bound) (l .loop .count) (l .loop .inv .0) (l .loop .inv .3) (c .if1 .taken)
 
 conjugate-lt : (l : tie.At-loop Inv-loop μ-loop) → l .loop .c < 2 ^ l .before .before .before .before .args .n
 conjugate-lt l =
     let s = l .before .before .before .before in
-    rw (l .loop .inv .2) (squared-lt (s .args .f) (s .args .n) (s .pre .0 .is-degree) (l .loop .i) (s .args .y) (s .pre .2))
+    rw (l .loop .inv .2) (squared-lt (s .args .f) (s .args .n) (s .pre .0 .is-degree) (l .loop .i) (s .args .y) (s .pre .3))
 
 square-by-bytes-requires : tie.Need-square-by-bytes-requires Inv-loop μ-loop
 square-by-bytes-requires c κs =
     let l = c .before .before in
     let s = l .before .before .before .before in
-    (s .pre .1, s .pre .0 .most, s .pre .0 .is-degree, conjugate-lt l)
+    (s .pre .2, s .pre .0 .most, s .pre .0 .is-degree, conjugate-lt l)
 
 add-i : tie.Need-add-i Inv-loop μ-loop
 add-i c =
@@ -78,8 +78,8 @@ row-through-requires c κs =
     let t = m .before in
     let s = t .before .before in (
       s .pre .0,
+      s .pre .1,
       rw (q .square-by-bytes .ensures) (mulMod-lt (s .args .f) (s .args .n) (s .pre .0 .is-degree) (l .loop .c) (l .loop .c)),
-      s .pre .5,
       t .before .multiples .ensures,
       m .multiples2 .ensures ∙ ap (λ (g : ℕ). multiplesOf g (s .args .n) (s .args .r)) (t .turn-modulus .ensures),
     )
@@ -110,7 +110,7 @@ loop-again c =
       omega (arith, i .loop-test .taken),
       omega (arith, l .loop .inv .1, c .both .ensures .1),
       e,
-      ones-turn (s .args .f) (s .args .n) (s .args .b) (s .args .sums .now) (s .pre .0) (s .args .y) (s .pre .2) (s .args .r) (s .pre .3)
+      ones-turn (s .args .f) (s .args .n) (s .args .b) (s .args .sums .now) (s .pre .0) (s .args .y) (s .pre .3) (s .args .r) (s .pre .4)
           (l .loop .i) (q .square-by-bytes .result) (t .row-through .result) (c .both .result) (l .loop .count)
           (i .loop-test .taken) e (t .row-through .ensures) (c .both .ensures .0) (l .loop .inv .3),
     )
@@ -121,7 +121,7 @@ returns-2 c =
     let s = l .before .before .before .before in
     ap (min (s .args .bound))
     (l .loop .inv .3
-    ∙ ones-whole (s .args .f) (s .args .n) (s .args .b) (s .args .sums .now) (s .pre .0) (s .args .y) (s .pre .2) (s .args .r) (s .pre .3)
+    ∙ ones-whole (s .args .f) (s .args .n) (s .args .b) (s .args .sums .now) (s .pre .0) (s .args .y) (s .pre .3) (s .args .r) (s .pre .4)
     (l .loop .i) (l .loop .inv .0) (c .loop-test .left))
 
 pub complexity-within-spec : {M : Type 1} → statement M

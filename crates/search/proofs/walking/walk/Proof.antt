@@ -14,13 +14,11 @@ use Rattle.field.specs.Field.{squared}
 use Rattle.rows.specs.ByteSums.{bytes, byteSums}
 use Rattle.normal.specs.Normal.{normal, complexity}
 use Rattle.normal.specs.Basis.{builtOf}
-use Rattle.normal.specs.Reference.{turn-degree}
 use Rattle.normal.specs.declared.basis.Built.{Built}
 use Rattle.search.specs.Search.{joined, walked, ranged}
 use Rattle.search.specs.Walks.{leader-is-normal}
 use Rattle.search.specs.Through.{Reference, built-complexity}
 use Rattle.search.specs.Begun.{FirstFrom, aloneBy, begun-nothing, begun-found, built-inverse}
-use Rattle.search.specs.Windows.{carriesOf}
 use Rattle.search.specs.declared.answer.Best.{Best}
 use Rattle.search.specs.declared.answer.Search.the-variants.{Found}
 use Rattle.search.proofs.walking.walk.Statement.{statement}
@@ -75,34 +73,32 @@ build-basis-requires c κs = search needs
 byte-sums-requires : tie.Need-byte-sums-requires
 byte-sums-requires c κs = search needs
 
-carries-requires : tie.Need-carries-requires
-carries-requires c κs = search needs
-
-turn-modulus-requires : tie.Need-turn-modulus-requires
-turn-modulus-requires c κs = search needs
-
-carries-requires-2 : tie.Need-carries-requires-2
-carries-requires-2 c κs =
-    let s = c .before .before .before .before .before .before .before .before .before .before .before .before .before in
-    (s .pre .2, rw (c .turn-modulus .ensures) (turn-degree (s .args .n) (omega (arith, s .pre .1))))
+upper-sums-requires : tie.Need-upper-sums-requires
+upper-sums-requires c κs =
+    let t = c .before in
+    let k = t .before .before .before .before in
+    let e = k .before in
+    let b = e .before in
+    let s = b .before .before .before .before .before in
+    let args = s .args in
+    reference (args .f) (args .n) (args .first) (args .last) (b .first-normal .result) (b .first-normal .ensures) (e .if1 .left)
+    (k .build-basis .result) (k .build-basis .ensures) _ (s .pre .1) (s .pre .2) (s .pre .3) (s .pre .5) (s .pre .7) (t .byte-sums .ensures)
 
 alone-requires : tie.Need-alone-requires
 alone-requires c κs = search needs
 
 add-walk-on : tie.Need-add-walk-on
 add-walk-on c =
-    let k = c .before .before .before .before .before .before .before .before .before .before .before .before in
+    let k = c .before .before .before .before .before .before .before .before .before .before in
     let e = k .before in
     let s = e .before .before .before .before .before .before in
     omega (arith, e .if1 .left, s .pre .7, pow-mono (s .pre .2))
 
 walk-on-requires : tie.Need-walk-on-requires
 walk-on-requires c κs =
-    let a = c .before .before .before .before in
-    let v = a .before in
-    let u = v .before in
-    let g = u .before in
-    let t = g .before in
+    let a = c .before .before .before in
+    let u = a .before in
+    let t = u .before .before in
     let k = t .before .before .before .before in
     let e = k .before in
     let b = e .before in
@@ -116,19 +112,19 @@ walk-on-requires c κs =
       s .pre .0,
       q .square-sums .ensures,
       ref,
+      u .upper-sums .ensures,
       m .trace-mask .ensures,
       s .pre .4,
       omega (arith, e .if1 .left),
       s .pre .7,
       start .0,
       start .1,
-      record { of-field = g .carries .ensures; of-turns = v .carries2 .ensures ∙ ap (λ (x : ℕ). carriesOf x (args .n)) (u .turn-modulus .ensures) },
     )
 
 returns-2 : tie.Need-returns-2
 returns-2 c =
-    let a = c .before .before .before .before .before in
-    let t = a .before .before .before .before in
+    let a = c .before .before .before .before in
+    let t = a .before .before .before in
     let k = t .before .before .before .before in
     let e = k .before in
     let b = e .before in
@@ -149,9 +145,7 @@ walk-spec =
     returns
     build-basis-requires
     byte-sums-requires
-    carries-requires
-    turn-modulus-requires
-    carries-requires-2
+    upper-sums-requires
     alone-requires
     add-walk-on
     walk-on-requires

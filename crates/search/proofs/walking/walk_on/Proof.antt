@@ -14,11 +14,11 @@ use Rattle.search.proofs.walking.walk_on.Statement.{statement}
 use Rattle.search.proofs.walking.walk_on.Tie as tie
 
 abbrev Inv-loop : tie.InvT-loop
-Inv-loop spread squares sums carries turns mask f n b next last found₀ y₀ found y =
+Inv-loop spread squares sums uppers mask f n b next last found₀ y₀ found y =
     (next ≤ y) × (y ≤ last + 1) × (found .element ≤ y) × (found .count ≤ y) × (Found found ≡ joined (Found found₀) (walked f n next (y - next)))
 
 abbrev μ-loop : tie.MeasureT-loop
-μ-loop spread squares sums carries turns mask f n b next last found₀ y₀ found y = last + 1 - y
+μ-loop spread squares sums uppers mask f n b next last found₀ y₀ found y = last + 1 - y
 
 start : (f n next : ℕ) (x : Best) → Found x ≡ joined (Found x) (walked f n next (next - next))
 start f n next x =
@@ -31,19 +31,19 @@ done f n next last a x z p q e = let s : a ≡ last + 1 = omega arith in rw s at
 
 loop-holds : tie.Need-loop-holds Inv-loop μ-loop
 loop-holds c =
-    (omega arith, c .pre .5, c .pre .7, c .pre .8, start (c .args .f) (c .args .n) (c .args .next) (c .args .start))
+    (omega arith, c .pre .6, c .pre .8, c .pre .9, start (c .args .f) (c .args .n) (c .args .next) (c .args .start))
 
 join-next-requires : tie.Need-join-next-requires Inv-loop μ-loop
 join-next-requires c κs =
     let l = c .before in
     let s = l .before in
-    (s .pre .0, s .pre .1, s .pre .2, s .pre .3, s .pre .4, omega (arith, s .pre .6, c .loop-test .taken), l .loop .inv .2, l .loop .inv .3, s .pre .9)
+    (s .pre .0, s .pre .1, s .pre .2, s .pre .3, s .pre .4, s .pre .5, omega (arith, s .pre .7, c .loop-test .taken), l .loop .inv .2, l .loop .inv .3)
 
 add-y : tie.Need-add-y Inv-loop μ-loop
 add-y c =
     let i = c .before in
     let s = i .before .before in
-    omega (arith, s .pre .6, pow-mono (s .pre .2 .most), i .loop-test .taken)
+    omega (arith, s .pre .7, pow-mono (s .pre .2 .most), i .loop-test .taken)
 
 loop-less : tie.Need-loop-less Inv-loop μ-loop
 loop-less c = omega arith
