@@ -11,4 +11,5 @@ pub mod Spread
 pub mod Euclid
 pub mod Words
 pub mod Steps
+pub mod Raised
 pub mod Limit

@@ -176,6 +176,10 @@ module _ (f n : ℕ) (deg : Degree f n) where
   mulMod-step a b h =
       rw (product-step-r a b, rem-⊕, rem-bit (b % 2) a (mod-two-lt b), ← product-double-l a (b / 2), ← rem-product-l (a * 2) (b / 2), rem-double a, rem-small f n a h)
 
+pub mulMod-zero-l : (f n b : ℕ) → mulMod f n 0 b ≡ 0
+unfolding mulMod
+mulMod-zero-l f n b = rw product-zero-l (rem-zero f n)
+
 pub mulMod-zero-r : (f n a : ℕ) → mulMod f n a 0 ≡ 0
 unfolding mulMod
 mulMod-zero-r f n a = rw product-zero-r (rem-zero f n)

@@ -4,13 +4,13 @@
 use mathlib.Core.Path.{_≡_, refl, sym, ap, _∙_}
 use mathlib.Core.Logic.{_⊎_, inl, inr}
 use Prim.Native.Nat.{ℕ, suc, _+_, _*_, _/_, _%_, _^_, _≤_, _<_}
-use native.Mathlib.Nat.{zero-mul, one-mul, div-add-mod', pow-suc, div-eq-of-lt, le-div-iff-mul-le}
+use native.Mathlib.Nat.{add-zero, zero-mul, one-mul, div-add-mod', pow-suc, div-eq-of-lt, le-div-iff-mul-le}
 use native.Mathlib.Omega.{arith}
 use lib.Arith.{bin-ind}
-use lib.Bits.{xor-comm, xor-zero-r, xor-self, xor-lt, xor-shr, xor-mod, xor-shifted}
+use lib.Bits.{xor-comm, xor-zero-r, xor-self, xor-lt, xor-shr, xor-mod, xor-shifted, xor-block}
 use lib.Pow.{pow-pos}
 use Rattle.gf2.specs.Poly.{_⊕_}
-use Rattle.gf2.specs.Numbers.{bitCases, mod-two-lt, by-digits, double-half, double-even}
+use Rattle.gf2.specs.Numbers.{bitCases, mod-two-lt, by-digits}
 
 -- ---- digits of a sum
 
@@ -94,11 +94,12 @@ pub ⊕-high : (k x y : ℕ) → 2 ^ k ≤ x → y < 2 ^ k → 2 ^ k ≤ x ⊕ y
     let g : 1 ≤ x / 2 ^ k = le-div-iff-mul-le (pow-pos k) .1 (omega arith) in
     omega (arith, le-div-iff-mul-le {k = 2 ^ k} {x = 1} {y = x ⊕ y} (pow-pos k) .0 (omega arith))
 
+pub ⊕-shl : (a b k : ℕ) → (a ⊕ b) * 2 ^ k ≡ a * 2 ^ k ⊕ b * 2 ^ k
+unfolding _⊕_
+⊕-shl a b k = sym (simp add-zero at (xor-block k a b 0 0 (pow-pos k) (pow-pos k)))
+
 pub ⊕-double : (a b : ℕ) → (a ⊕ b) * 2 ≡ a * 2 ⊕ b * 2
-⊕-double a b =
-    by-digits
-    (simp (⊕-half, double-half))
-    (simp (⊕-odd, double-even, zero-⊕))
+⊕-double a b = ⊕-shl a b 1
 
 -- parts that do not overlap are added as numbers are
 pub ⊕-low : (a k b : ℕ) → b < 2 ^ k → a * 2 ^ k ⊕ b ≡ a * 2 ^ k + b

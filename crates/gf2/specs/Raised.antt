@@ -1,0 +1,87 @@
+-- Polynomials moved up to the top of a 64-bit word, where products are computed.
+--
+--   rem-raised, mulMod-raised   moved up by k, a remainder or a product modulo f is one modulo f * 2 ^ k
+--   times-x-raised              x times a modulo 2 ^ 64 + low: the coefficient that leaves the word is taken away with low
+--   mulMod-lowered              f moved up is 2 ^ 64 + low, so a product modulo that, moved down, is one modulo f
+--
+-- Assumes nothing.
+use mathlib.Core.Path.{_≡_, sym, ap, _∙_}
+use mathlib.Core.Logic.{⊎-elim}
+use Prim.Native.Nat.{ℕ, _+_, _-_, _*_, _/_, _%_, _^_, _≤_, _<_}
+use native.Mathlib.Nat.{zero-mul, one-mul}
+use native.Mathlib.Omega.{arith}
+use lib.Pow.{shl-lt, shl-exact, shl-shr}
+use Rattle.gf2.specs.Poly.{_⊕_, product, reduce, rem, mulMod, Degree}
+use Rattle.gf2.specs.Numbers.{order}
+use Rattle.gf2.specs.Sum.{⊕-zero, ⊕-comm, ⊕-middle, ⊕-low, ⊕-shl}
+use Rattle.gf2.specs.Product.{product-shift-l, product-shift-r}
+use Rattle.gf2.specs.Degrees.{degree-shift}
+use Rattle.gf2.specs.Remainder.{reduce-small, reduce-large, rem-lt, rem-quotient, rem-unique, mulMod-zero-l}
+
+-- ---- moved up by k places
+
+module _ (f n : ℕ) (deg : Degree f n) (k : ℕ) where
+  pub rem-raised : (a : ℕ) → rem (f * 2 ^ k) (n + k) (a * 2 ^ k) ≡ rem f n a * 2 ^ k
+  rem-raised a =
+      let q = rem-quotient f n a in
+      let e : a * 2 ^ k ≡ product (q .0) (f * 2 ^ k) ⊕ rem f n a * 2 ^ k =
+      ap (λ (x : ℕ). x * 2 ^ k) (q .1) ∙ rw (⊕-shl, product-shift-r) in
+      sym (rem-unique (f * 2 ^ k) (n + k) (degree-shift f n k deg) (a * 2 ^ k) (q .0) (rem f n a * 2 ^ k) e (shl-lt n k (rem-lt f n deg a)))
+
+  pub mulMod-raised : (a b : ℕ) → mulMod (f * 2 ^ k) (n + k) (a * 2 ^ k) b ≡ mulMod f n a b * 2 ^ k
+  unfolding mulMod
+  mulMod-raised a b = rw product-shift-l (rem-raised (product a b))
+
+-- ---- modulo 2 ^ 64 + low
+
+pub raised-degree : (low : ℕ) → low < 2 ^ 64 → Degree (2 ^ 64 + low) 64
+raised-degree low h = record { low = omega arith; high = omega arith }
+
+-- the top term falls off the word
+top-falls : (g : ℕ) → Degree g 64 → 2 ^ 64 + g % 2 ^ 64 ≡ g
+top-falls g d = omega (arith, d .low, d .high)
+
+top-apart : (x : ℕ) → x < 2 ^ 64 → 2 ^ 64 ⊕ x ≡ 2 ^ 64 + x
+top-apart x h = ⊕-low 1 64 x h
+
+-- the coefficient that a shift moves out of the word is taken away with low
+pub times-x-raised : (low a : ℕ) → low < 2 ^ 64 → a < 2 ^ 64 → a * 2 % 2 ^ 64 ⊕ (a / 2 ^ 63) * low ≡ reduce (2 ^ 64 + low) 64 (a * 2)
+times-x-raised low a hl ha =
+    let g : ℕ = 2 ^ 64 + low in
+    let t : ℕ = a * 2 % 2 ^ 64 in
+    ⊎-elim
+    (λ (h : a * 2 < 2 ^ 64).
+    let z : a / 2 ^ 63 ≡ 0 = omega arith in
+    let s : t ≡ a * 2 = omega arith in
+    rw (z, s, zero-mul, ⊕-zero) (sym (reduce-small g 64 (a * 2) h)))
+    (λ (h : 2 ^ 64 ≤ a * 2).
+    let z : a / 2 ^ 63 ≡ 1 = omega arith in
+    let s : a * 2 ≡ 2 ^ 64 + t = omega arith in
+    rw (z, one-mul)
+    (sym (⊕-middle t (2 ^ 64) low)
+    ∙ rw (⊕-comm t (2 ^ 64), top-apart t (omega arith), top-apart low hl, ← s) (sym (reduce-large g 64 (a * 2) h))))
+    (order (a * 2) (2 ^ 64))
+
+-- ---- down again
+
+module _ (f n a b : ℕ) (deg : Degree f n) (h : a < 2 ^ n) where
+  lowered-by : (k : ℕ) → n + k ≡ 64 → mulMod (2 ^ 64 + f * 2 ^ k % 2 ^ 64) 64 (a * 2 ^ k % 2 ^ 64) b / 2 ^ k ≡ mulMod f n a b
+  lowered-by k s =
+      let d : Degree (f * 2 ^ k) 64 = rw s at (degree-shift f n k deg) in
+      let m : mulMod (f * 2 ^ k) 64 (a * 2 ^ k) b ≡ mulMod f n a b * 2 ^ k = rw s at (mulMod-raised f n deg k a b) in
+      rw (top-falls (f * 2 ^ k) d, shl-exact n k 64 h (omega arith), m) (shl-shr (mulMod f n a b) k)
+
+  -- for n = 0 nothing is moved, and a is 0
+  pub mulMod-lowered : n < 64 → (k sum : ℕ) → k ≡ (64 - n) % 64
+      → sum ≡ mulMod (2 ^ 64 + f * 2 ^ k % 2 ^ 64) 64 (a * 2 ^ k % 2 ^ 64) b → sum / 2 ^ k ≡ mulMod f n a b
+  mulMod-lowered small k sum e p =
+      rw p
+      (⊎-elim
+      (λ (l : n < 1).
+      let zn : n ≡ 0 = omega arith in
+      let zk : k ≡ 0 = omega arith in
+      let u : a < 2 ^ 0 = rw zn at h in
+      let za : a ≡ 0 = omega arith in
+      rw (zk, za, mulMod-zero-l, mulMod-zero-l))
+      (λ (l : 1 ≤ n). lowered-by k (omega arith))
+      (order n 1))
