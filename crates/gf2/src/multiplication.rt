@@ -1,16 +1,15 @@
-// Multiplication modulo a polynomial, from the low coefficient of the second operand up.
+// Multiplication modulo a polynomial, from the low coefficient of the second operand up. The multiples of the first are kept
+// at the top of the word, so that what leaves it is the coefficient to take away, and no shift by the degree has to find that.
 ghost use mathlib.Core.Path.{_≡_};
-ghost use Prim.Native.Nat.{_*_, _^_, _<_};
+ghost use Prim.Native.Nat.{_+_, _*_, _^_, _<_};
 ghost use Rattle.gf2.specs.Poly.{reduce, mulMod, Degree};
 use super::division::picked;
 
-// x times a modulo f, of degree n.
-fn times_x(f: u64, n: u32, a: u64) -> u64
-    requires { ⌜ (n < 64) × Degree f n × (a < 2 ^ n) ⌝ }
-    ensures { λ r. ⌜ r ≡ reduce f n (a * 2) ⌝ }
+// x times a modulo x^64 + low. A coefficient that leaves the word stands at x^64, and modulo x^64 + low that is low.
+fn times_x(low: u64, a: u64) -> u64
+    ensures { λ r. ⌜ r ≡ reduce (2 ^ 64 + low) 64 (a * 2) ⌝ }
 {
-    let y = a << 1;
-    y ^ picked(y >> n, f)
+    (a << 1) ^ picked(a >> 63, low)
 }
 
 // The product of a and b modulo f, of degree n: at each coefficient of b, a times the power of x that stands there.
@@ -18,13 +17,16 @@ pub fn multiply(f: u64, n: u32, a: u64, b: u64) -> u64
     requires { ⌜ (n < 64) × Degree f n × (a < 2 ^ n) ⌝ }
     ensures { λ r. ⌜ r ≡ mulMod f n a b ⌝ }
 {
+    // The top term of f leaves the word. For n = 0, where a shift by 64 is not allowed, a is 0 and may stay.
+    let k = (64 - n) % 64;
+    let low = f << k;
     let mut sum: u64 = 0;
-    let mut shifted = a;
+    let mut shifted = a << k;
     let mut rest = b;
     while rest != 0 {
         sum = sum ^ picked(rest % 2, shifted);
-        shifted = times_x(f, n, shifted);
+        shifted = times_x(low, shifted);
         rest = rest / 2;
     }
-    sum
+    sum >> k
 }
