@@ -5,6 +5,7 @@ use mathlib.Core.Path.{_≡_, refl, sym, ap, ap₂, _∙_}
 use mathlib.Core.Logic.{⊎-elim}
 use Prim.Native.Nat.{ℕ, zero, suc, _+_, _*_, _/_, _%_, _^_, _≤_, _<_}
 use native.Mathlib.Nat.{pow-suc, zero-add, suc-add}
+use native.Mathlib.Numerals.{add-one}
 use native.Mathlib.Omega.{arith}
 use lib.Arith.{bin-ind}
 use Rattle.gf2.specs.Poly.{_⊕_, mulMod, Degree}
@@ -13,6 +14,11 @@ use Rattle.gf2.specs.Sum.{low-apart}
 use Rattle.gf2.specs.Remainder.{rem-small, mulMod-zero-r}
 use Rattle.field.specs.Field.{squared, powMod}
 use Rattle.field.specs.Ring.{mulMod-lt, mulMod-comm, mulMod-assoc, mulMod-one-l, mulMod-x, mulMod-four, mulMod-square-⊕, two-lt}
+
+-- where a loop that squares starts
+pub squared-start : (f n a : ℕ) → a ≡ squared f n 0 a
+unfolding squared
+squared-start f n a = refl
 
 module _ (f n : ℕ) (deg : Degree f n) where
   -- ---- Frobenius
@@ -41,6 +47,10 @@ module _ (f n : ℕ) (deg : Degree f n) where
   pub squared-next : (k a : ℕ) → mulMod f n (squared f n k a) (squared f n k a) ≡ squared f n (suc k) a
   unfolding squared
   squared-next k a = sym (squared-mulMod k a a)
+
+  -- a conjugate that a loop squares on: one turn
+  pub squared-turn : (i a y z : ℕ) → y ≡ squared f n i a → z ≡ mulMod f n y y → z ≡ squared f n (i + 1) a
+  squared-turn i a y z inv e = e ∙ rw (inv, add-one) (squared-next i a)
 
   pub squared-add : (i k a : ℕ) → squared f n (i + k) a ≡ squared f n i (squared f n k a)
   unfolding squared

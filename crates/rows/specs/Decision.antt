@@ -16,11 +16,10 @@ use borrow.Author.Tests.{lt-ltb, ltb-true, eq-eqb, eqb-true}
 use Rattle.gf2.specs.Poly.{_⊕_}
 use Rattle.gf2.specs.Numbers.{order}
 use Rattle.gf2.specs.Bounded.{some, none-means, not-both}
-use Rattle.rows.specs.declared.inversion.Inverted.{Inverted}
-use Rattle.rows.specs.Rows.{comb, Matrix, Independent, independent, Inverse, Dependency, Inverts}
+use Rattle.rows.specs.Rows.{comb, Matrix, Independent, independent, Inverse, Dependency}
 use Rattle.rows.specs.Sums.{comb-zero, comb-power, comb-lt}
 use Rattle.rows.specs.Bits.{_∩_}
-use Rattle.rows.specs.Inverses.{undoes, inverse-right, inverse-independent, inverse-sym, dependency-dependent, inverted-independent}
+use Rattle.rows.specs.Inverses.{undoes, inverse-right, inverse-independent, dependency-dependent}
 use Rattle.rows.specs.Added.{added, length-placed}
 use Rattle.rows.specs.Insertion.{Inserted, Reduced, pivot-set, insertion-start, row-reduced, row-dependent}
 use Rattle.rows.specs.Placing.{insertion-turn, insertion-end}
@@ -100,17 +99,6 @@ module _ (rows : List ℕ) (n : ℕ) (m : Matrix rows n) where
     λ i. inverse-independent rows n (i .0) (i .1),
   )
 
-  -- not independent exactly if it has a dependency
-  pub dependent-dependency : (Independent rows n → ⊥) ↔ ((v : ℕ) × Dependency rows n v)
-  dependent-dependency = (
-    λ tied.
-        ⊎-elim
-        (λ (i : (inv : List ℕ) × Inverse rows n inv). absurd (tied (inverse-independent rows n (i .0) (i .1))))
-        (λ (d : (v : ℕ) × Dependency rows n v). d)
-        (inverse-or-dependency rows n (m .row-lt)),
-    λ d. dependency-dependent rows n (d .0) (d .1),
-  )
-
   -- every number below 2 ^ n is a sum of independent rows
   pub independent-onto : Independent rows n → (y : ℕ) → y < 2 ^ n → (v : ℕ) × (v < 2 ^ n) × (comb rows v ≡ y)
   independent-onto free y h =
@@ -136,9 +124,6 @@ inverse-of-right rows n inv m h =
     free : Independent inv n
     free v p l e = let z : v ≡ 0 = sym (undo v l) ∙ ap (comb rows) e ∙ comb-zero rows in omega arith
 
-pub inverse-of-left : (rows : List ℕ) (n : ℕ) (inv : List ℕ) → Matrix rows n → Matrix inv n → ((i : ℕ) → i < n → comb inv (getD rows i 0) ≡ 2 ^ i) → Inverse rows n inv
-inverse-of-left rows n inv m k h = inverse-sym inv n rows (inverse-of-right inv n rows m h) k
-
 -- ---- the test
 
 pub and-parts : (a b : Bool) → (a && b) ≡ true → (a ≡ true) × (b ≡ true)
@@ -163,15 +148,3 @@ independent-means rows n =
           let b = and-parts (ltb 0 v) (eqb (comb rows v) 0) e in
           free v (ltb-true 0 v (b .0)) l (eqb-true (comb rows v) 0 (b .1)))),
     )
-
--- what inversion says of independence is the test's answer
-pub inverted-test : (rows : List ℕ) (n : ℕ) (r : Inverted) → Inverts rows n r → r .independent ≡ independent rows n
-inverted-test rows n r a =
-    same (r .independent) (independent rows n)
-    (λ e. independent-means rows n .1 (inverted-independent rows n r a .0 e))
-    (λ e. inverted-independent rows n r a .1 (independent-means rows n .0 e))
-  where
-    same : (a b : Bool) → (a ≡ true → b ≡ true) → (b ≡ true → a ≡ true) → a ≡ b
-    same true b f g = sym (f refl)
-    same false true f g = g refl
-    same false false f g = refl

@@ -14,10 +14,11 @@ use lib.ListN.{length, set, getD}
 use lib.Pow.{pow-pos, pow-mono, pow-lt}
 use Rattle.gf2.specs.Poly.{_⊕_}
 use Rattle.gf2.specs.Numbers.{order, pow-next}
+use Rattle.gf2.specs.Steps.{bit-mul-lt}
 use Rattle.gf2.specs.Sum.{zero-⊕, ⊕-zero, ⊕-self, ⊕-assoc, ⊕-cancel, ⊕-lt, bit-⊕-mul}
 use Rattle.rows.specs.Rows.{comb, Inverse}
 use Rattle.rows.specs.Linear.{Linear, linear-bit, linear-ext, linear-same, linear-⊕}
-use Rattle.rows.specs.Sums.{comb-⊕, comb-bit, comb-power, comb-lt, bit-mul-lt}
+use Rattle.rows.specs.Sums.{comb-⊕, comb-bit, comb-power, comb-lt}
 use Rattle.rows.specs.Bits.{bitOf, _∩_, bitOf-lt, bitOf-⊕, bitOf-zero, bitOf-below, ∩-comm, ∩-self, ⊕-∩, ∩-⊕, ∩-linear, ∩-power, power-apart, power-past, bitOf-power, bitOf-other, ∩-all, apart-bit}
 use Rattle.rows.specs.Pivots.{ones-all, ones-more}
 use Rattle.rows.specs.Added.{added, Placed, added-placed}
@@ -155,7 +156,7 @@ module _ {C : List ℕ} {n k : ℕ} {a b : List ℕ} {p : ℕ} (in-place : Inser
           rw (placed-b .old i ne)
           (⊕-lt (k + 1) (getD b i 0) (bitOf (getD a i 0) c * t)
           (omega (arith, in-place .names i))
-          (bit-mul-lt (k + 1) (bitOf (getD a i 0) c) t (bitOf-lt (getD a i 0) c) h))
+          (bit-mul-lt (bitOf (getD a i 0) c) t (2 ^ (k + 1)) (bitOf-lt (getD a i 0) c) h))
 
 -- ---- a turn: the first m rows have all the pivots, column c is cleared in them, and the row is put at c
 

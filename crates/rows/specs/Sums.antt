@@ -1,8 +1,8 @@
 -- Laws of `comb`, the sum of the rows that the bits of a number pick. In order: one row more; linear in the number; a power
--- of two picks its row; bounds; rows that agree; linear in the rows; a linear function of a sum, and so a sum of sums; rows
+-- of two picks its row; bounds; rows that agree; a linear function of a sum, and so a sum of sums; rows
 -- past the end; turns of the loop that sums.
 -- Assumes nothing.
-use mathlib.Core.Path.{_≡_, refl, sym, ap, ap₂, _∙_}
+use mathlib.Core.Path.{_≡_, refl, sym, ap, _∙_}
 use mathlib.Core.Logic.{⊎-elim}
 use mathlib.Core.List.{List, [], _∷_, map}
 use Prim.Native.Nat.{ℕ, zero, suc, _+_, _-_, _*_, _/_, _%_, _^_, _≤_, _<_}
@@ -13,10 +13,11 @@ use lib.Pow.{pow-pos, pow-add}
 use lib.ListN.{getD, take, drop, replicate, List·getD-map}
 use lib.Seq.{getD-take, getD-drop, drop-drop}
 use Rattle.gf2.specs.Poly.{_⊕_}
-use Rattle.gf2.specs.Numbers.{bitCases, order, mod-two-lt}
+use Rattle.gf2.specs.Numbers.{order, mod-two-lt}
+use Rattle.gf2.specs.Steps.{bit-mul-lt}
 use Rattle.gf2.specs.Sum.{⊕-half, ⊕-odd, zero-⊕, ⊕-zero, ⊕-assoc, ⊕-four, ⊕-lt, bit-⊕-mul}
 use Rattle.rows.specs.Rows.{comb}
-use Rattle.rows.specs.Linear.{Linear, linear-zero, linear-bit, linear-ext, linear-after, linear-⊕, linear-shift, high-apart}
+use Rattle.rows.specs.Linear.{Linear, linear-zero, linear-bit, linear-ext, linear-after, linear-shift}
 
 -- ---- one row more
 
@@ -63,14 +64,11 @@ comb-power (r ∷ rs) (suc c) = comb-cons r rs (2 ^ suc c) ∙ rw (pow-half, pow
 
 -- ---- bounds
 
-pub bit-mul-lt : (k d r : ℕ) → d < 2 → r < 2 ^ k → d * r < 2 ^ k
-bit-mul-lt k d r h l = ⊎-elim (λ (e : d ≡ 0). rw (e, zero-mul) (pow-pos k)) (λ (e : d ≡ 1). rw (e, one-mul) l) (bitCases d h)
-
 -- rows below 2 ^ k have their sums below 2 ^ k
 pub comb-lt : (k : ℕ) (rows : List ℕ) → ((i : ℕ) → getD rows i 0 < 2 ^ k) → (v : ℕ) → comb rows v < 2 ^ k
 comb-lt k [] h v = rw comb-nil (pow-pos k)
 comb-lt k (r ∷ rs) h v =
-    rw comb-cons (⊕-lt k (v % 2 * r) (comb rs (v / 2)) (bit-mul-lt k (v % 2) r (mod-two-lt v) (h 0)) (comb-lt k rs (λ i. h (suc i)) (v / 2)))
+    rw comb-cons (⊕-lt k (v % 2 * r) (comb rs (v / 2)) (bit-mul-lt (v % 2) r (2 ^ k) (mod-two-lt v) (h 0)) (comb-lt k rs (λ i. h (suc i)) (v / 2)))
 
 -- the same where only the first n rows are known, for a number below 2 ^ n
 pub comb-lt-first : (k n : ℕ) (rows : List ℕ) → ((i : ℕ) → i < n → getD rows i 0 < 2 ^ k) → (v : ℕ) → v < 2 ^ n → comb rows v < 2 ^ k
@@ -80,7 +78,7 @@ comb-lt-first k (suc n) (r ∷ rs) h v l =
     let p : v < 2 ^ n * 2 = rw pow-suc at l in
     rw comb-cons
     (⊕-lt k (v % 2 * r) (comb rs (v / 2))
-    (bit-mul-lt k (v % 2) r (mod-two-lt v) (h 0 (omega arith)))
+    (bit-mul-lt (v % 2) r (2 ^ k) (mod-two-lt v) (h 0 (omega arith)))
     (comb-lt-first k n rs (λ i q. h (suc i) (omega arith)) (v / 2) (omega arith)))
 
 -- ---- rows that agree have the same sums
@@ -95,14 +93,6 @@ below-power (suc v) = rw pow-suc (omega (arith, below-power v))
 -- rows that agree at every place, though one list may have more zeros at its end
 pub comb-same : (A B : List ℕ) → ((i : ℕ) → getD A i 0 ≡ getD B i 0) → (v : ℕ) → comb A v ≡ comb B v
 comb-same A B h v = comb-ext v A B (λ i l. h i) v (below-power v)
-
--- ---- linear in the rows
-
-pub comb-rows-⊕ : (A B C : List ℕ) → ((i : ℕ) → getD C i 0 ≡ getD A i 0 ⊕ getD B i 0) → (v : ℕ) → comb C v ≡ comb A v ⊕ comb B v
-comb-rows-⊕ A B C h v =
-    linear-ext (comb C) (λ w. comb A w ⊕ comb B w) (comb-⊕ C) (linear-⊕ (comb A) (comb B) (comb-⊕ A) (comb-⊕ B)) v
-    (λ i l. comb-power C i ∙ h i ∙ sym (ap₂ _⊕_ (comb-power A i) (comb-power B i)))
-    v (below-power v)
 
 pub comb-rows-zero : (rows : List ℕ) → ((i : ℕ) → getD rows i 0 ≡ 0) → (v : ℕ) → comb rows v ≡ 0
 comb-rows-zero rows h v = comb-same rows [] h v ∙ comb-nil v
@@ -121,11 +111,7 @@ getD-map-linear f l B i = ap (getD (map f B) i) (sym (linear-zero f l)) ∙ List
 pub linear-comb : (f : ℕ → ℕ) → Linear f → (B : List ℕ) (v : ℕ) → f (comb B v) ≡ comb (map f B) v
 linear-comb f l B v = sym (linear-rows f l (map f B) B (getD-map-linear f l B) v)
 
--- a sum of sums
-pub comb-comb : (C B : List ℕ) (v : ℕ) → comb C (comb B v) ≡ comb (map (comb C) B) v
-comb-comb C = linear-comb (comb C) (comb-⊕ C)
-
--- the same where the sums stand in a list of their own
+-- a sum of sums, which stand in a list of their own
 pub comb-sums : (C A B : List ℕ) → ((i : ℕ) → getD A i 0 ≡ comb C (getD B i 0)) → (v : ℕ) → comb A v ≡ comb C (comb B v)
 comb-sums C = linear-rows (comb C) (comb-⊕ C)
 
@@ -144,18 +130,9 @@ comb-drop n rows v =
     (λ i l. comb-power (drop n rows) i ∙ getD-drop n rows i 0 ∙ ap (λ (k : ℕ). getD rows k 0) (add-comm n i) ∙ sym (rw (← pow-add 2 i n) (comb-power rows (i + n))))
     v (below-power v))
 
--- where the rows from n upward are zero, the bits from n upward pick nothing
-pub comb-mod : (n : ℕ) (rows : List ℕ) → ((i : ℕ) → n ≤ i → getD rows i 0 ≡ 0) → (v : ℕ) → comb rows (v % 2 ^ n) ≡ comb rows v
-comb-mod n rows h v =
-    let z : comb rows (v / 2 ^ n * 2 ^ n) ≡ 0 = comb-drop n rows (v / 2 ^ n) ∙ comb-rows-zero (drop n rows) (λ i. getD-drop n rows i 0 ∙ h (n + i) (omega arith)) (v / 2 ^ n) in
-    sym (ap (comb rows) (sym (high-apart n v)) ∙ comb-⊕ rows (v / 2 ^ n * 2 ^ n) (v % 2 ^ n) ∙ rw z (zero-⊕ _))
-
 -- a number below 2 ^ n picks among the first n rows
 pub comb-take : (n : ℕ) (rows : List ℕ) (v : ℕ) → v < 2 ^ n → comb (take n rows) v ≡ comb rows v
 comb-take n rows = comb-ext n (take n rows) rows (λ i l. getD-take n rows i 0 l)
-
-pub comb-replicate : (m v : ℕ) → comb (replicate m 0) v ≡ 0
-comb-replicate m = comb-rows-zero (replicate m 0) (zeros-at m)
 
 -- ---- the loop that sums: what is summed, and what the bits that are left pick of the rows that are left
 

@@ -5,6 +5,7 @@ mod by_bytes;
 mod inversion;
 mod sums;
 
+pub use bits::power;
 pub use by_bytes::BYTE_SUMS;
 pub use by_bytes::byte_sums;
 pub use by_bytes::sum_by_bytes;

@@ -6,15 +6,12 @@
 -- Assumes nothing.
 use mathlib.Core.Path.{_≡_, _∙_}
 use mathlib.Core.List.{List}
-use Prim.Native.Nat.{ℕ, _+_, _^_, _≤_, _<_}
-use native.Mathlib.Numerals.{add-one}
+use Prim.Native.Nat.{ℕ, _^_, _≤_, _<_}
 use native.Mathlib.Omega.{arith}
 use lib.Pow.{pow-mono}
 use Rattle.gf2.specs.Poly.{mulMod, Degree}
 use Rattle.gf2.specs.Limit.{limit}
-use Rattle.field.specs.Field.{squared}
 use Rattle.field.specs.Ring.{mulMod-square-⊕}
-use Rattle.field.specs.Frobenius.{squared-next}
 use Rattle.rows.specs.Rows.{comb}
 use Rattle.rows.specs.Linear.{linear-ext}
 use Rattle.rows.specs.Sums.{comb-⊕, comb-power}
@@ -39,7 +36,3 @@ module _ (f n : ℕ) (deg : Degree f n) (y : ℕ) (h : y < 2 ^ n) where
   -- bytes pick the square
   pub squares-picked : n ≤ limit → pickedBytes bytes (byteSums bytes (squareRows f n)) y ≡ mulMod f n y y
   squares-picked small = bytes-pick bytes (squareRows f n) y (omega (arith, pow-mono small)) ∙ squares-sum
-
--- one turn of a loop that squares
-pub squares-turn : (f n : ℕ) → Degree f n → (i a y z : ℕ) → y ≡ squared f n i a → z ≡ mulMod f n y y → z ≡ squared f n (i + 1) a
-squares-turn f n deg i a y z inv e = e ∙ rw (inv, add-one) (squared-next f n deg i a)

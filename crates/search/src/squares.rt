@@ -10,15 +10,8 @@ use gf2::LIMIT;
 use gf2::square;
 use rows::BYTE_SUMS;
 use rows::byte_sums;
+use rows::power;
 use rows::sum_by_bytes;
-
-// x^i as a number.
-pub fn power_of_x(i: usize) -> u64
-    requires { ⌜ i < 64 ⌝ }
-    ensures { λ r. ⌜ r ≡ 2 ^ i ⌝ }
-{
-    1u64 << i
-}
 
 // The squares of x^0 to x^(n-1).
 fn square_rows(spread: &[u16; 256], f: u64, n: u32) -> [u64; LIMIT]
@@ -29,7 +22,7 @@ fn square_rows(spread: &[u16; 256], f: u64, n: u32) -> [u64; LIMIT]
     let count = n as usize;
     let mut i: usize = 0;
     while i < count {
-        rows[i] = square(spread, f, n, power_of_x(i));
+        rows[i] = square(spread, f, n, power(i));
         i += 1;
     }
     rows

@@ -8,10 +8,10 @@ ghost use Rattle.field.specs.Field.{squared, trace, Irreducible};
 ghost use Rattle.rows.specs.ByteSums.{bytes, byteSums};
 ghost use Rattle.search.specs.Squares.{squareRows};
 ghost use Rattle.search.specs.Traces.{traceMask};
-use super::squares::power_of_x;
 use super::squares::square_by_bytes;
 use gf2::picked;
 use rows::BYTE_SUMS;
+use rows::power;
 
 // The sum of the n conjugates of a, each squared by the tables.
 fn trace_of(squares: &[u64; BYTE_SUMS], f: u64, n: u32, a: u64) -> u64
@@ -38,7 +38,7 @@ pub fn trace_mask(squares: &[u64; BYTE_SUMS], f: u64, n: u32) -> u64
     let count = n as usize;
     let mut i: usize = 0;
     while i < count {
-        let x = power_of_x(i);
+        let x = power(i);
         mask = mask ^ picked(trace_of(squares, f, n, x) % 2, x);
         i += 1;
     }

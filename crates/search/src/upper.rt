@@ -4,11 +4,11 @@ ghost use mathlib.Core.Path.{_≡_};
 ghost use Rattle.rows.specs.ByteSums.{bytes, byteSums};
 ghost use Rattle.search.specs.Through.{Reference};
 ghost use Rattle.search.specs.Upper.{upperRows};
-use super::squares::power_of_x;
 use gf2::LIMIT;
 use gf2::multiply;
 use rows::BYTE_SUMS;
 use rows::byte_sums;
+use rows::power;
 use rows::sum_by_bytes;
 
 // The coordinates of x^n to x^(2n-1), where sums are those of b's inverse rows.
@@ -18,7 +18,7 @@ fn upper_rows(sums: &[u64; BYTE_SUMS], f: u64, n: u32, b: u64) -> [u64; LIMIT]
 {
     let mut rows: [u64; LIMIT] = [0; LIMIT];
     let count = n as usize;
-    let mut y = f - power_of_x(count);
+    let mut y = f - power(count);
     let mut i: usize = 0;
     while i < count {
         rows[i] = sum_by_bytes(sums, y);

@@ -5,9 +5,9 @@ ghost use Prim.Native.Nat.{_+_, _^_, _≤_, _<_};
 ghost use Rattle.gf2.specs.Poly.{mulMod, Degree};
 ghost use Rattle.gf2.specs.Limit.{limit};
 ghost use Rattle.search.specs.Windows.{multiplesOf, fourWindows, Unreduced};
-use super::squares::power_of_x;
 use super::units::turn_modulus;
 use gf2::multiply;
+use rows::power;
 
 // A polynomial of degree below 2n: low + high x^n.
 pub struct Wide {
@@ -60,7 +60,7 @@ pub fn wide_product(multiples: &[u64; 16], f: u64, n: u32, a: u64, b: u64) -> Wi
     requires { ⌜ (now multiples ≡ multiplesOf f n a) × (n ≤ limit) × Degree f n × (b < 2 ^ n) ⌝ }
     ensures { λ r. ⌜ Unreduced f n a b (r .low) (r .high) ⌝ }
 {
-    let mask = power_of_x(n as usize) - 1;
+    let mask = power(n as usize) - 1;
     let mut low: u64 = 0;
     let mut high: u64 = 0;
     let mut k: u32 = 0;

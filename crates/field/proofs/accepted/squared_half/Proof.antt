@@ -11,9 +11,8 @@ use Rattle.gf2.specs.Euclid.{GreatestCommon}
 use Rattle.field.specs.Field.{squared}
 use Rattle.field.specs.Accepted.{divided}
 use Rattle.field.specs.Ring.{two-lt}
-use Rattle.field.specs.Frobenius.{squared-lt}
+use Rattle.field.specs.Frobenius.{squared-start, squared-turn, squared-lt}
 use Rattle.field.specs.CommonDivisors.{NoneTo, none-to-zero, none-to-next, divided-found, divided-none}
-use Rattle.field.proofs.Conjugate.{squared-start, squared-turn}
 use Rattle.field.proofs.accepted.squared_half.Statement.{statement}
 use Rattle.field.proofs.accepted.squared_half.Tie as tie
 

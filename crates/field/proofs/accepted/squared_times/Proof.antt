@@ -4,8 +4,7 @@ use mathlib.Core.Path.{_≡_, ap, _∙_}
 use Prim.Native.Nat.{ℕ, _-_, _≤_}
 use native.Mathlib.Omega.{arith}
 use Rattle.field.specs.Field.{squared}
-use Rattle.field.specs.Frobenius.{squared-lt}
-use Rattle.field.proofs.Conjugate.{squared-start, squared-turn}
+use Rattle.field.specs.Frobenius.{squared-start, squared-turn, squared-lt}
 use Rattle.field.proofs.accepted.squared_times.Statement.{statement}
 use Rattle.field.proofs.accepted.squared_times.Tie as tie
 

@@ -7,8 +7,7 @@ use native.Mathlib.Omega.{arith}
 use lib.Bits.{bitXor}
 use Rattle.gf2.specs.Poly.{_⊕_}
 use Rattle.field.specs.Field.{squared, traceTo, trace}
-use Rattle.field.specs.Frobenius.{squared-lt}
-use Rattle.field.proofs.Conjugate.{squared-start, squared-turn}
+use Rattle.field.specs.Frobenius.{squared-start, squared-turn, squared-lt}
 use Rattle.field.proofs.calls.conjugates_sum.Statement.{statement}
 use Rattle.field.proofs.calls.conjugates_sum.Tie as tie
 

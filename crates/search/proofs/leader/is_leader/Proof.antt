@@ -7,10 +7,9 @@ use native.Mathlib.Nat.{le-refl}
 use native.Mathlib.Omega.{arith}
 use Rattle.gf2.specs.Numbers.{order}
 use Rattle.field.specs.Field.{squared}
-use Rattle.field.specs.Frobenius.{squared-lt}
+use Rattle.field.specs.Frobenius.{squared-lt, squared-turn}
 use Rattle.search.specs.Search.{leader}
 use Rattle.search.specs.Leaders.{leader-means, not-leader}
-use Rattle.search.specs.Squares.{squares-turn}
 use Rattle.search.proofs.leader.is_leader.Statement.{statement}
 use Rattle.search.proofs.leader.is_leader.Tie as tie
 
@@ -57,7 +56,7 @@ loop-again c =
     let q = c .before in
     let l = q .before .before in
     let s = l .before in
-    let e = squares-turn (s .args .f) (s .args .n) (s .pre .3) (l .loop .i) (s .args .a) (l .loop .y) (q .square-by-bytes .result) (l .loop .inv .1) (q .square-by-bytes .ensures) in
+    let e = squared-turn (s .args .f) (s .args .n) (s .pre .3) (l .loop .i) (s .args .a) (l .loop .y) (q .square-by-bytes .result) (l .loop .inv .1) (q .square-by-bytes .ensures) in
     (omega arith, e, passed (s .args .f) (s .args .n) (l .loop .i) (s .args .a) (q .square-by-bytes .result) e (c .if2 .left) (l .loop .inv .2))
 
 returns : tie.Need-returns Inv-loop μ-loop
@@ -71,7 +70,7 @@ returns-2 c =
     let q = c .before in
     let l = q .before .before in
     let s = l .before in
-    let e = squares-turn (s .args .f) (s .args .n) (s .pre .3) (l .loop .i) (s .args .a) (l .loop .y) (q .square-by-bytes .result) (l .loop .inv .1) (q .square-by-bytes .ensures) in
+    let e = squared-turn (s .args .f) (s .args .n) (s .pre .3) (l .loop .i) (s .args .a) (l .loop .y) (q .square-by-bytes .result) (l .loop .inv .1) (q .square-by-bytes .ensures) in
     sym (not-leader (s .args .f) (s .args .n) (s .args .a) (l .loop .i + 1) (omega arith) (rw e at (c .if2 .taken)))
 
 pub is-leader-spec : {M : Type 1} → statement M

@@ -1,16 +1,14 @@
 -- `search::reference::complexity_within` meets its contract. The invariant: c is the conjugate c_i, and the ones of rows 0 to i are counted,
 -- with those of the rows that mirror them. The measure is the number of rows to come. Assumes nothing.
-use mathlib.Core.Path.{_≡_, refl, ap, _∙_}
+use mathlib.Core.Path.{_≡_, ap, _∙_}
 use Prim.Native.Nat.{ℕ, _+_, _-_, _*_, _/_, _^_, _≤_, _<_, min}
-use native.Mathlib.Numerals.{add-one}
 use native.Mathlib.Omega.{arith}
 use borrow.Author.Needs.{needs}
 use mir.Val.{Fits}
 use mir.Syntax.{w64}
 use lib.Count.{ones-le}
-use Rattle.gf2.specs.Poly.{mulMod, Degree}
 use Rattle.field.specs.Field.{squared}
-use Rattle.field.specs.Frobenius.{squared-lt, squared-next}
+use Rattle.field.specs.Frobenius.{squared-start, squared-lt, squared-turn}
 use Rattle.field.specs.Ring.{mulMod-lt}
 use Rattle.normal.specs.Reference.{turn-degree}
 use Rattle.search.specs.Through.{onesTo, ones-none, ones-turn, ones-whole, ones-bounded}
@@ -23,13 +21,6 @@ Inv-loop squares sums uppers f n b y r bound ys rs count₀ c₀ i₀ count c i 
 
 abbrev μ-loop : tie.MeasureT-loop
 μ-loop squares sums uppers f n b y r bound ys rs count₀ c₀ i₀ count c i = n / 2 - i
-
-start : (f n y : ℕ) → y ≡ squared f n 0 y
-unfolding squared
-start f n y = refl
-
-next : (f n : ℕ) → Degree f n → (i y c z : ℕ) → c ≡ squared f n i y → z ≡ mulMod f n c c → z ≡ squared f n (i + 1) y
-next f n deg i y c z e ez = ez ∙ rw (e, add-one) (squared-next f n deg i y)
 
 multiples-requires : tie.Need-multiples-requires Inv-loop μ-loop
 multiples-requires c κs = (c .pre .0 .most, c .pre .0 .is-degree, c .pre .3)
@@ -45,7 +36,7 @@ multiples-requires-2 c κs =
 loop-holds : tie.Need-loop-holds Inv-loop μ-loop
 loop-holds c =
     let s = c .before .before .before in
-    (omega arith, omega arith, start (s .args .f) (s .args .n) (s .args .y), ones-none (s .args .f) (s .args .n) (s .args .y))
+    (omega arith, omega arith, squared-start (s .args .f) (s .args .n) (s .args .y), ones-none (s .args .f) (s .args .n) (s .args .y))
 
 returns : tie.Need-returns Inv-loop μ-loop
 returns c =
@@ -106,7 +97,7 @@ loop-again c =
     let i = q .before .before in
     let l = i .before in
     let s = l .before .before .before .before in
-    let e = next (s .args .f) (s .args .n) (s .pre .0 .is-degree) (l .loop .i) (s .args .y) (l .loop .c) (q .square-by-bytes .result) (l .loop .inv .2) (q .square-by-bytes .ensures) in (
+    let e = squared-turn (s .args .f) (s .args .n) (s .pre .0 .is-degree) (l .loop .i) (s .args .y) (l .loop .c) (q .square-by-bytes .result) (l .loop .inv .2) (q .square-by-bytes .ensures) in (
       omega (arith, i .loop-test .taken),
       omega (arith, l .loop .inv .1, c .both .ensures .1),
       e,

@@ -29,13 +29,13 @@ done f n i rows p q small s = let e : i ≡ n = omega arith in filled-padded row
 loop-holds : tie.Need-loop-holds Inv-loop μ-loop
 loop-holds c = (omega arith, filled-start (row (c .args .f) (c .args .n)))
 
-power-of-x-requires : tie.Need-power-of-x-requires Inv-loop μ-loop
-power-of-x-requires c κs = omega (arith, c .before .before .pre .1)
+power-requires : tie.Need-power-requires Inv-loop μ-loop
+power-requires c κs = omega (arith, c .before .before .pre .1)
 
 square-requires : tie.Need-square-requires Inv-loop μ-loop
 square-requires c κs =
     let s = c .before .before .before in
-    (s .pre .0, omega (arith, s .pre .1), s .pre .2, rw (c .power-of-x .ensures) (pow-lt (c .before .loop-test .taken)))
+    (s .pre .0, omega (arith, s .pre .1), s .pre .2, rw (c .power .ensures) (pow-lt (c .before .loop-test .taken)))
 
 mul-rows : tie.Need-mul-rows Inv-loop μ-loop
 mul-rows c = omega (arith, c .before .before .before .before .pre .1)
@@ -56,7 +56,7 @@ loop-again c =
     let s = l .before in (
       omega arith,
       filled-turn (l .loop .rows) (l .loop .i) (c .square .result) (row (s .args .f) (s .args .n)) (omega (arith, s .pre .1))
-          (c .square .ensures ∙ ap (λ (y : ℕ). mulMod (s .args .f) (s .args .n) y y) (p .power-of-x .ensures)) (l .loop .inv .1),
+          (c .square .ensures ∙ ap (λ (y : ℕ). mulMod (s .args .f) (s .args .n) y y) (p .power .ensures)) (l .loop .inv .1),
     )
 
 returns : tie.Need-returns Inv-loop μ-loop
@@ -72,7 +72,7 @@ square-rows-spec =
     Inv-loop
     μ-loop
     loop-holds
-    power-of-x-requires
+    power-requires
     square-requires
     mul-rows
     array-write-rows

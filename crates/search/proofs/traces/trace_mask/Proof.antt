@@ -34,14 +34,14 @@ done f n i mask p q e = let s : i ≡ n = omega arith in e ∙ ap (maskTo f n) s
 loop-holds : tie.Need-loop-holds Inv-loop μ-loop
 loop-holds c = (omega arith, start (c .args .f) (c .args .n))
 
-power-of-x-requires : tie.Need-power-of-x-requires Inv-loop μ-loop
-power-of-x-requires c κs = omega (arith, c .before .before .pre .1)
+power-requires : tie.Need-power-requires Inv-loop μ-loop
+power-requires c κs = omega (arith, c .before .before .pre .1)
 
 trace-of-requires : tie.Need-trace-of-requires Inv-loop μ-loop
 trace-of-requires c κs =
     let i = c .before in
     let s = i .before .before in
-    (s .pre .0, s .pre .1, s .pre .2, rw (c .power-of-x .ensures) (pow-lt (i .loop-test .taken)))
+    (s .pre .0, s .pre .1, s .pre .2, rw (c .power .ensures) (pow-lt (i .loop-test .taken)))
 
 picked-requires : tie.Need-picked-requires Inv-loop μ-loop
 picked-requires c κs = mod-two-lt (c .trace-of .result)
@@ -59,8 +59,8 @@ loop-again c =
     let l = x .before .before in
     let s = l .before in (
       omega arith,
-      turn (s .args .f) (s .args .n) (l .loop .i) (l .loop .mask) (x .power-of-x .result) (t .trace-of .result) (c .picked .result) (l .loop .inv .1)
-          (x .power-of-x .ensures) (t .trace-of .ensures) (c .picked .ensures),
+      turn (s .args .f) (s .args .n) (l .loop .i) (l .loop .mask) (x .power .result) (t .trace-of .result) (c .picked .result) (l .loop .inv .1)
+          (x .power .ensures) (t .trace-of .ensures) (c .picked .ensures),
     )
 
 returns : tie.Need-returns Inv-loop μ-loop
@@ -76,7 +76,7 @@ trace-mask-spec =
     Inv-loop
     μ-loop
     loop-holds
-    power-of-x-requires
+    power-requires
     trace-of-requires
     picked-requires
     add-i

@@ -7,8 +7,7 @@ use native.Mathlib.Omega.{arith}
 use lib.Bits.{bitXor}
 use Rattle.gf2.specs.Poly.{_⊕_}
 use Rattle.field.specs.Field.{squared, traceTo, trace}
-use Rattle.field.specs.Frobenius.{squared-lt}
-use Rattle.search.specs.Squares.{squares-turn}
+use Rattle.field.specs.Frobenius.{squared-lt, squared-turn}
 use Rattle.search.proofs.traces.trace_of.Statement.{statement}
 use Rattle.search.proofs.traces.trace_of.Tie as tie
 
@@ -53,7 +52,7 @@ loop-again c =
     let s = l .before in (
       omega arith,
       turn (s .args .f) (s .args .n) (l .loop .i) (s .args .a) (l .loop .sum) (l .loop .y) (l .loop .inv .1) (l .loop .inv .2),
-      squares-turn (s .args .f) (s .args .n) (s .pre .2) (l .loop .i) (s .args .a) (l .loop .y) (c .square-by-bytes .result) (l .loop .inv .2) (c .square-by-bytes .ensures),
+      squared-turn (s .args .f) (s .args .n) (s .pre .2) (l .loop .i) (s .args .a) (l .loop .y) (c .square-by-bytes .result) (l .loop .inv .2) (c .square-by-bytes .ensures),
     )
 
 returns : tie.Need-returns Inv-loop μ-loop

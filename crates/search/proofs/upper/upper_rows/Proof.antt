@@ -30,16 +30,16 @@ done : (f n b i : ℕ) (rows : List ℕ) → i ≤ n → n ≤ i → n ≤ limit
 unfolding upperRows
 done f n b i rows p q small s = let e : i ≡ n = omega arith in filled-padded rows n (row f n b) small (rw e at s)
 
-power-of-x-requires : tie.Need-power-of-x-requires Inv-loop μ-loop
-power-of-x-requires c κs = omega (arith, c .pre .most)
+power-requires : tie.Need-power-requires Inv-loop μ-loop
+power-requires c κs = omega (arith, c .pre .most)
 
 sub-y : tie.Need-sub-y Inv-loop μ-loop
-sub-y c = omega (arith, c .power-of-x .ensures, c .before .pre .is-degree .low)
+sub-y c = omega (arith, c .power .ensures, c .before .pre .is-degree .low)
 
 loop-holds : tie.Need-loop-holds Inv-loop μ-loop
 loop-holds c =
     let s = c .before in
-    (omega arith, filled-start (row (s .args .f) (s .args .n) (s .args .b)), top-apart (s .args .f) (s .args .n) (s .pre .is-degree) _ (c .power-of-x .ensures))
+    (omega arith, filled-start (row (s .args .f) (s .args .n) (s .args .b)), top-apart (s .args .f) (s .args .n) (s .pre .is-degree) _ (c .power .ensures))
 
 sum-by-bytes-requires : tie.Need-sum-by-bytes-requires Inv-loop μ-loop
 sum-by-bytes-requires c κs = search needs
@@ -88,7 +88,7 @@ upper-rows-spec =
     (tie.spec
     Inv-loop
     μ-loop
-    power-of-x-requires
+    power-requires
     sub-y
     loop-holds
     sum-by-bytes-requires

@@ -14,11 +14,11 @@ Inv-loop multiples f n a b mask low₀ high₀ k₀ low high k = Unreduced f n a
 abbrev μ-loop : tie.MeasureT-loop
 μ-loop multiples f n a b mask low₀ high₀ k₀ low high k = n - k
 
-power-of-x-requires : tie.Need-power-of-x-requires Inv-loop μ-loop
-power-of-x-requires c κs = omega (arith, c .pre .1)
+power-requires : tie.Need-power-requires Inv-loop μ-loop
+power-requires c κs = omega (arith, c .pre .1)
 
 sub-mask : tie.Need-sub-mask Inv-loop μ-loop
-sub-mask c = omega (arith, c .power-of-x .ensures, pow-pos (c .before .args .n))
+sub-mask c = omega (arith, c .power .ensures, pow-pos (c .before .args .n))
 
 loop-holds : tie.Need-loop-holds Inv-loop μ-loop
 loop-holds c =
@@ -61,8 +61,8 @@ loop-again c =
     let l = i .before in
     let p = l .before in
     let s = p .before in
-    wide-step (s .args .f) (s .args .n) (s .pre .2) (s .pre .1) (s .args .a) (s .args .multiples .now) (s .pre .0) (s .args .b) (l .loop .k) (p .power-of-x .result)
-    (l .loop .low) (l .loop .high) (c .four-windows .result) (s .pre .3) (i .loop-test .taken) (p .power-of-x .ensures) (c .four-windows .ensures) (l .loop .inv)
+    wide-step (s .args .f) (s .args .n) (s .pre .2) (s .pre .1) (s .args .a) (s .args .multiples .now) (s .pre .0) (s .args .b) (l .loop .k) (p .power .result)
+    (l .loop .low) (l .loop .high) (c .four-windows .result) (s .pre .3) (i .loop-test .taken) (p .power .ensures) (c .four-windows .ensures) (l .loop .inv)
 
 returns : tie.Need-returns Inv-loop μ-loop
 returns c =
@@ -76,7 +76,7 @@ wide-product-spec =
     (tie.spec
     Inv-loop
     μ-loop
-    power-of-x-requires
+    power-requires
     sub-mask
     loop-holds
     cast-four-windows
