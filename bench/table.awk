@@ -135,7 +135,6 @@ END {
     time_goal("check, f irreducible: at most 4 times NTL's time", "check-irreducible", "ntl", 4)
     time_goal("check, f a product: at most 4 times NTL's time", "check-product", "ntl", 4)
     time_goal("convert 4,096: at most a tenth of 4,096 single conversions in plain", "convert-4096-singly", "plain", 0.1)
-    time_goal("the same, where plain takes the sheet apart once", "convert-4096", "plain", 0.1)
     for (i = 2; i <= count; i++) {
         rate_goal(list[i], "ntl", "NTL")
         rate_goal(list[i], "ntl-words", "NTL, words")
