@@ -1,7 +1,7 @@
 // The remainder modulo a polynomial.
 ghost use mathlib.Core.Path.{_≡_};
-ghost use Prim.Native.Nat.{_*_, _^_, _≤_, _<_};
-ghost use Rattle.gf2.specs.Poly.{rem, Degree};
+ghost use Prim.Native.Nat.{_+_, _*_, _^_, _≤_, _<_};
+ghost use Rattle.gf2.specs.Poly.{reduce, rem, Degree};
 
 // A coefficient times a row: the row where the bit is 1, else 0. A mask and no branch, since coefficients cannot be foreseen.
 pub fn picked(bit: u64, row: u64) -> u64
@@ -9,6 +9,14 @@ pub fn picked(bit: u64, row: u64) -> u64
     ensures { λ r. ⌜ r ≡ bit * row ⌝ }
 {
     std::num::wrapping_sub_u64(0, bit) & row
+}
+
+// x times a modulo x^64 + low, for polynomials that are kept at the top of the word: the coefficient to take away is then the
+// one that leaves it, and no shift by the degree has to find that. It stands at x^64, which is low modulo x^64 + low.
+pub fn times_x(low: u64, a: u64) -> u64
+    ensures { λ r. ⌜ r ≡ reduce (2 ^ 64 + low) 64 (a * 2) ⌝ }
+{
+    (a << 1) ^ picked(a >> 63, low)
 }
 
 // The remainder modulo f, of degree n, of a polynomial y with no coefficient from width upward: a walk down over the

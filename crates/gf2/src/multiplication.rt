@@ -1,16 +1,10 @@
 // Multiplication modulo a polynomial, from the low coefficient of the second operand up. The multiples of the first are kept
-// at the top of the word, so that what leaves it is the coefficient to take away, and no shift by the degree has to find that.
+// at the top of the word, for `times_x`.
 ghost use mathlib.Core.Path.{_≡_};
-ghost use Prim.Native.Nat.{_+_, _*_, _^_, _<_};
-ghost use Rattle.gf2.specs.Poly.{reduce, mulMod, Degree};
+ghost use Prim.Native.Nat.{_^_, _<_};
+ghost use Rattle.gf2.specs.Poly.{mulMod, Degree};
 use super::division::picked;
-
-// x times a modulo x^64 + low. A coefficient that leaves the word stands at x^64, and modulo x^64 + low that is low.
-fn times_x(low: u64, a: u64) -> u64
-    ensures { λ r. ⌜ r ≡ reduce (2 ^ 64 + low) 64 (a * 2) ⌝ }
-{
-    (a << 1) ^ picked(a >> 63, low)
-}
+use super::division::times_x;
 
 // The product of a and b modulo f, of degree n: at each coefficient of b, a times the power of x that stands there.
 pub fn multiply(f: u64, n: u32, a: u64, b: u64) -> u64

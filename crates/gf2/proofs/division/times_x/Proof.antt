@@ -1,4 +1,4 @@
--- `gf2::multiplication::times_x` meets its contract: one coefficient at most leaves the word, and is taken away with low.
+-- `gf2::division::times_x` meets its contract: one coefficient at most leaves the word, and is taken away with low.
 -- Assumes nothing.
 use mathlib.Core.Path.{_≡_, ap, _∙_}
 use Prim.Native.Nat.{ℕ, _+_, _*_, _/_, _%_, _^_, _<_}
@@ -6,8 +6,8 @@ use borrow.Author.Needs.{needs}
 use lib.Bits.{bitXor}
 use Rattle.gf2.specs.Poly.{_⊕_, reduce}
 use Rattle.gf2.specs.Raised.{times-x-raised}
-use Rattle.gf2.proofs.multiplication.times_x.Statement.{statement}
-use Rattle.gf2.proofs.multiplication.times_x.Tie as tie
+use Rattle.gf2.proofs.division.times_x.Statement.{statement}
+use Rattle.gf2.proofs.division.times_x.Tie as tie
 
 reduced : (low a p : ℕ) → low < 2 ^ 64 → a < 2 ^ 64 → p ≡ (a / 2 ^ 63) * low → bitXor (a * 2 % 2 ^ 64) p ≡ reduce (2 ^ 64 + low) 64 (a * 2)
 unfolding _⊕_
