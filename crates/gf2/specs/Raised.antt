@@ -1,11 +1,12 @@
--- Polynomials moved up to the top of a 64-bit word, where products are computed.
+-- Polynomials moved up to the top of a 64-bit word, where remainders and products are computed.
 --
---   rem-raised, mulMod-raised   moved up by k, a remainder or a product modulo f is one modulo f * 2 ^ k
---   times-x-raised              x times a modulo 2 ^ 64 + low: the coefficient that leaves the word is taken away with low
---   mulMod-lowered              f moved up is 2 ^ 64 + low, so a product modulo that, moved down, is one modulo f
+--   rem-raised                    moved up by k, a remainder modulo f is one modulo f * 2 ^ k
+--   times-x-raised                x times a modulo 2 ^ 64 + low: the coefficient that leaves the word is taken away with low
+--   rem-fits                      where a polynomial moved up still fits into the word it is its own remainder
+--   rem-lowered, mulMod-lowered   f moved up is 2 ^ 64 + low, so a remainder or a product modulo that, moved down, is one modulo f
 --
 -- Assumes nothing.
-use mathlib.Core.Path.{_≡_, sym, ap, _∙_}
+use mathlib.Core.Path.{_≡_, refl, sym, ap, _∙_}
 use mathlib.Core.Logic.{⊎-elim}
 use Prim.Native.Nat.{ℕ, _+_, _-_, _*_, _/_, _%_, _^_, _≤_, _<_}
 use native.Mathlib.Nat.{zero-mul, one-mul}
@@ -16,21 +17,16 @@ use Rattle.gf2.specs.Numbers.{order}
 use Rattle.gf2.specs.Sum.{⊕-zero, ⊕-comm, ⊕-middle, ⊕-low, ⊕-shl}
 use Rattle.gf2.specs.Product.{product-shift-l, product-shift-r}
 use Rattle.gf2.specs.Degrees.{degree-shift}
-use Rattle.gf2.specs.Remainder.{reduce-small, reduce-large, rem-lt, rem-quotient, rem-unique, mulMod-zero-l}
+use Rattle.gf2.specs.Remainder.{reduce-small, reduce-large, rem-small, rem-lt, rem-quotient, rem-unique, mulMod-zero-l}
 
 -- ---- moved up by k places
 
-module _ (f n : ℕ) (deg : Degree f n) (k : ℕ) where
-  pub rem-raised : (a : ℕ) → rem (f * 2 ^ k) (n + k) (a * 2 ^ k) ≡ rem f n a * 2 ^ k
-  rem-raised a =
-      let q = rem-quotient f n a in
-      let e : a * 2 ^ k ≡ product (q .0) (f * 2 ^ k) ⊕ rem f n a * 2 ^ k =
-      ap (λ (x : ℕ). x * 2 ^ k) (q .1) ∙ rw (⊕-shl, product-shift-r) in
-      sym (rem-unique (f * 2 ^ k) (n + k) (degree-shift f n k deg) (a * 2 ^ k) (q .0) (rem f n a * 2 ^ k) e (shl-lt n k (rem-lt f n deg a)))
-
-  pub mulMod-raised : (a b : ℕ) → mulMod (f * 2 ^ k) (n + k) (a * 2 ^ k) b ≡ mulMod f n a b * 2 ^ k
-  unfolding mulMod
-  mulMod-raised a b = rw product-shift-l (rem-raised (product a b))
+pub rem-raised : (f n : ℕ) → Degree f n → (k a : ℕ) → rem (f * 2 ^ k) (n + k) (a * 2 ^ k) ≡ rem f n a * 2 ^ k
+rem-raised f n deg k a =
+    let q = rem-quotient f n a in
+    let e : a * 2 ^ k ≡ product (q .0) (f * 2 ^ k) ⊕ rem f n a * 2 ^ k =
+    ap (λ (x : ℕ). x * 2 ^ k) (q .1) ∙ rw (⊕-shl, product-shift-r) in
+    sym (rem-unique (f * 2 ^ k) (n + k) (degree-shift f n k deg) (a * 2 ^ k) (q .0) (rem f n a * 2 ^ k) e (shl-lt n k (rem-lt f n deg a)))
 
 -- ---- modulo 2 ^ 64 + low
 
@@ -62,14 +58,24 @@ times-x-raised low a hl ha =
     ∙ rw (⊕-comm t (2 ^ 64), top-apart t (omega arith), top-apart low hl, ← s) (sym (reduce-large g 64 (a * 2) h))))
     (order (a * 2) (2 ^ 64))
 
+-- no coefficient has left the word yet, so none is to be taken away
+pub rem-fits : (g y j k : ℕ) → y < 2 ^ j → j + k ≡ 64 → y * 2 ^ k % 2 ^ 64 ≡ rem g 64 (y * 2 ^ k)
+rem-fits g y j k h s =
+    shl-exact j k 64 h (omega arith) ∙ sym (rem-small g 64 (y * 2 ^ k) (rw s at (shl-lt j k h)))
+
 -- ---- down again
+
+pub rem-lowered : (f n k a r : ℕ) → Degree f n → n + k ≡ 64
+    → r ≡ rem (2 ^ 64 + f * 2 ^ k % 2 ^ 64) 64 (a * 2 ^ k) → r / 2 ^ k ≡ rem f n a
+rem-lowered f n k a r deg s p =
+    let d : Degree (f * 2 ^ k) 64 = rw s at (degree-shift f n k deg) in
+    let m : rem (f * 2 ^ k) 64 (a * 2 ^ k) ≡ rem f n a * 2 ^ k = rw s at (rem-raised f n deg k a) in
+    rw (p, top-falls (f * 2 ^ k) d, m) (shl-shr (rem f n a) k)
 
 module _ (f n a b : ℕ) (deg : Degree f n) (h : a < 2 ^ n) where
   lowered-by : (k : ℕ) → n + k ≡ 64 → mulMod (2 ^ 64 + f * 2 ^ k % 2 ^ 64) 64 (a * 2 ^ k % 2 ^ 64) b / 2 ^ k ≡ mulMod f n a b
-  lowered-by k s =
-      let d : Degree (f * 2 ^ k) 64 = rw s at (degree-shift f n k deg) in
-      let m : mulMod (f * 2 ^ k) 64 (a * 2 ^ k) b ≡ mulMod f n a b * 2 ^ k = rw s at (mulMod-raised f n deg k a b) in
-      rw (top-falls (f * 2 ^ k) d, shl-exact n k 64 h (omega arith), m) (shl-shr (mulMod f n a b) k)
+  unfolding mulMod
+  lowered-by k s = rw (shl-exact n k 64 h (omega arith), product-shift-l) (rem-lowered f n k (product a b) _ deg s refl)
 
   -- for n = 0 nothing is moved, and a is 0
   pub mulMod-lowered : n < 64 → (k sum : ℕ) → k ≡ (64 - n) % 64

@@ -103,6 +103,12 @@ module _ (f n : ℕ) (deg : Degree f n) where
       bin-ind (λ (m : ℕ). rem f n m < 2 ^ n) (rw (rem-zero f n) (pow-pos n))
       (λ m ih. rw (rem-step f n m) (reduce-lt (rem f n (m / 2) * 2 + m % 2) (omega arith)))
 
+  -- modulo 1, the polynomial of degree 0, nothing is left
+  pub rem-constant : n ≡ 0 → (a : ℕ) → rem f n a ≡ 0
+  rem-constant e a =
+      let h : 2 ^ n ≡ 1 = rw e in
+      omega (arith, rem-lt a)
+
   -- ---- linear
 
   below : (a d : ℕ) → d < 2 → rem f n a * 2 + d < 2 ^ n * 2

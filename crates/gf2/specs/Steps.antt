@@ -3,7 +3,7 @@
 use mathlib.Core.Path.{_≡_, sym, ap, ap₂, _∙_}
 use mathlib.Core.Logic.{⊎-elim}
 use Prim.Native.Nat.{ℕ, _+_, _-_, _*_, _/_, _%_, _^_, _≤_, _<_}
-use native.Mathlib.Nat.{zero-mul, one-mul, sub-add-cancel, add-comm}
+use native.Mathlib.Nat.{zero-mul, one-mul, sub-add-cancel, add-comm, mul-assoc}
 use native.Mathlib.Omega.{arith}
 use lib.Pow.{pow-mono, shr-shr, split}
 use Rattle.gf2.specs.Poly.{_⊕_, product, reduce, rem, mulMod, spread, Degree}
@@ -11,7 +11,7 @@ use Rattle.gf2.specs.Numbers.{bitCases, pow-next, mod-two-lt}
 use Rattle.gf2.specs.Sum.{⊕-lt, ⊕-zero, ⊕-assoc, ⊕-comm}
 use Rattle.gf2.specs.Product.{product-comm, product-power, product-square, product-square-parts}
 use Rattle.gf2.specs.Degrees.{degree-shift}
-use Rattle.gf2.specs.Remainder.{reduce-is, reduce-lt, top-lt, rem-same, rem-small, rem-shift, mulMod-step}
+use Rattle.gf2.specs.Remainder.{reduce-is, reduce-lt, top-lt, rem-same, rem-small, rem-double, rem-shift, mulMod-step}
 
 pub bit-mul-lt : (d x m : ℕ) → d < 2 → x < m → d * x < m
 bit-mul-lt d x m h l = ⊎-elim (λ (e : d ≡ 0). rw (e, zero-mul) (omega arith)) (λ (e : d ≡ 1). rw (e, one-mul) l) (bitCases d h)
@@ -49,6 +49,10 @@ module _ (f n : ℕ) (deg : Degree f n) where
 
   pub rem-walked : (k r y : ℕ) → k ≤ n → r < 2 ^ k → rem f n r ≡ rem f n y → r ≡ rem f n y
   rem-walked k r y h l e = sym (rem-small f n r (omega (arith, pow-mono h))) ∙ e
+
+  -- r is that of y moved up by k, and is moved up by one more
+  pub rem-turn : (y k r r′ : ℕ) → r ≡ rem f n (y * 2 ^ k) → r′ ≡ reduce f n (r * 2) → r′ ≡ rem f n (y * 2 ^ (k + 1))
+  rem-turn y k r r′ p q = rw (q, p, pow-next, ← mul-assoc) (sym (rem-double f n deg (y * 2 ^ k)))
 
   -- ---- one more byte of a square
 
