@@ -1,17 +1,16 @@
--- One turn of each loop over coefficients, as laws on numbers: x times a, the walk of the remainder, one more byte of a square.
+-- One turn of each loop over coefficients, as laws on numbers: of the product, of the remainder, one more byte of a square.
 -- Assumes nothing.
 use mathlib.Core.Path.{_≡_, sym, ap, ap₂, _∙_}
 use mathlib.Core.Logic.{⊎-elim}
 use Prim.Native.Nat.{ℕ, _+_, _-_, _*_, _/_, _%_, _^_, _≤_, _<_}
-use native.Mathlib.Nat.{zero-mul, one-mul, sub-add-cancel, add-comm, mul-assoc}
+use native.Mathlib.Nat.{zero-mul, one-mul, sub-add-cancel, mul-assoc}
 use native.Mathlib.Omega.{arith}
-use lib.Pow.{pow-mono, shr-shr, split}
+use lib.Pow.{shr-shr, split}
 use Rattle.gf2.specs.Poly.{_⊕_, product, reduce, rem, mulMod, spread, Degree}
 use Rattle.gf2.specs.Numbers.{bitCases, pow-next, mod-two-lt}
-use Rattle.gf2.specs.Sum.{⊕-lt, ⊕-zero, ⊕-assoc, ⊕-comm}
-use Rattle.gf2.specs.Product.{product-comm, product-power, product-square, product-square-parts}
-use Rattle.gf2.specs.Degrees.{degree-shift}
-use Rattle.gf2.specs.Remainder.{reduce-is, reduce-lt, top-lt, rem-same, rem-small, rem-double, rem-shift, mulMod-step}
+use Rattle.gf2.specs.Sum.{⊕-lt, ⊕-assoc}
+use Rattle.gf2.specs.Product.{product-square, product-square-parts}
+use Rattle.gf2.specs.Remainder.{reduce-lt, rem-double, rem-shift, mulMod-step}
 
 pub bit-mul-lt : (d x m : ℕ) → d < 2 → x < m → d * x < m
 bit-mul-lt d x m h l = ⊎-elim (λ (e : d ≡ 0). rw (e, zero-mul) (omega arith)) (λ (e : d ≡ 1). rw (e, one-mul) l) (bitCases d h)
@@ -31,24 +30,6 @@ module _ (f n : ℕ) (deg : Degree f n) where
   )
 
   -- ---- the walk of the remainder
-
-  -- the coefficient at k, which is at n or above, is taken away with f
-  pub rem-walk : (k r : ℕ) → n ≤ k → r < 2 ^ (k + 1)
-      → (r ⊕ (r / 2 ^ k) * (f * 2 ^ (k - n)) < 2 ^ k) × (rem f n (r ⊕ (r / 2 ^ k) * (f * 2 ^ (k - n))) ≡ rem f n r)
-  rem-walk k r h l =
-      let g : ℕ = f * 2 ^ (k - n) in
-      let s : n + (k - n) ≡ k = add-comm n (k - n) ∙ sub-add-cancel h in
-      let dg : Degree g k = rw s at (degree-shift f n (k - n) deg) in
-      let top : r < 2 ^ k * 2 = rw pow-next at l in
-      let multiple : (d : ℕ) → d < 2 → rem f n (r ⊕ d * g) ≡ rem f n r =
-      λ d hd. ⊎-elim
-      (λ (e : d ≡ 0). rw (e, zero-mul, ⊕-zero))
-      (λ (e : d ≡ 1). rw (e, one-mul, ⊕-comm, ← product-power f (k - n), product-comm f (2 ^ (k - n))) (rem-same f n deg (2 ^ (k - n)) r))
-      (bitCases d hd) in
-      (rw (← reduce-is g k r top) (reduce-lt g k dg r top), multiple (r / 2 ^ k) (top-lt k r top))
-
-  pub rem-walked : (k r y : ℕ) → k ≤ n → r < 2 ^ k → rem f n r ≡ rem f n y → r ≡ rem f n y
-  rem-walked k r y h l e = sym (rem-small f n r (omega (arith, pow-mono h))) ∙ e
 
   -- r is that of y moved up by k, and is moved up by one more
   pub rem-turn : (y k r r′ : ℕ) → r ≡ rem f n (y * 2 ^ k) → r′ ≡ reduce f n (r * 2) → r′ ≡ rem f n (y * 2 ^ (k + 1))

@@ -20,16 +20,26 @@ pub fn times_x(low: u64, a: u64) -> u64
 }
 
 // The remainder modulo f, of degree n, of a polynomial y with no coefficient from width upward: a walk down over the
-// coefficients from width - 1 down to n, each taken away with f.
+// coefficients from width - 1 down to n, each taken away with f. f is moved up until its top term leaves the word, and y until
+// the coefficient whose turn it is stands highest in it.
 pub fn remainder(f: u64, n: u32, width: u32, y: u64) -> u64
     requires { ⌜ (width ≤ 64) × Degree f n × (y < 2 ^ width) ⌝ }
     ensures { λ r. ⌜ r ≡ rem f n y ⌝ }
 {
-    let mut k = width;
-    let mut r = y;
-    while n < k {
-        k -= 1;
-        r = r ^ picked(r >> k, f << (k - n));
+    // f is 1 then, and a shift by 64 is not allowed.
+    if n == 0 {
+        return 0;
     }
-    r
+    if width <= n {
+        return y;
+    }
+    let up = 64 - n;
+    let low = f << up;
+    let mut k = 64 - width;
+    let mut r = y << k;
+    while k < up {
+        k += 1;
+        r = times_x(low, r);
+    }
+    r >> up
 }

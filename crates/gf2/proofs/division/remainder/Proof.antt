@@ -1,87 +1,87 @@
--- `gf2::division::remainder` meets its contract. The invariant: r has no coefficient from k upward, and the remainder of y.
--- The measure is k. Assumes nothing.
-use mathlib.Core.Path.{_≡_, refl, ap, _∙_}
-use Prim.Native.Nat.{ℕ, _+_, _-_, _*_, _/_, _%_, _^_, _≤_, _<_}
-use native.Mathlib.Nat.{sub-add-cancel}
+-- `gf2::division::remainder` meets its contract. The invariant, at the top of the word: r is the remainder of y moved up by k.
+-- The measure is 64 - k. Assumes nothing.
+use mathlib.Core.Path.{_≡_, sym}
+use Prim.Native.Nat.{_+_, _-_, _*_, _^_, _≤_}
+use native.Mathlib.Nat.{mod-lt}
 use native.Mathlib.Omega.{arith}
-use lib.Bits.{bitXor}
-use lib.Pow.{shl-exact}
-use Rattle.gf2.specs.Poly.{_⊕_, rem, Degree}
-use Rattle.gf2.specs.Numbers.{pow-next}
-use Rattle.gf2.specs.Remainder.{top-lt}
-use Rattle.gf2.specs.Steps.{rem-walk, rem-walked}
+use borrow.Author.Needs.{needs}
+use lib.Pow.{pow-pos, pow-mono}
+use Rattle.gf2.specs.Poly.{rem}
+use Rattle.gf2.specs.Remainder.{rem-small, rem-constant}
+use Rattle.gf2.specs.Steps.{rem-turn}
+use Rattle.gf2.specs.Raised.{raised-degree, rem-fits, rem-lowered}
 use Rattle.gf2.proofs.division.remainder.Statement.{statement}
 use Rattle.gf2.proofs.division.remainder.Tie as tie
 
 abbrev Inv-loop : tie.InvT-loop
-Inv-loop f n width y k₀ r₀ k r = (k ≤ 64) × (r < 2 ^ k) × (rem f n r ≡ rem f n y)
+Inv-loop f n width y up low k₀ r₀ k r = (k ≤ up) × (r ≡ rem (2 ^ 64 + low) 64 (y * 2 ^ k))
 
 abbrev μ-loop : tie.MeasureT-loop
-μ-loop f n width y k₀ r₀ k r = k
+μ-loop f n width y up low k₀ r₀ k r = 64 - k
 
-module _ (f n y k r : ℕ) (deg : Degree f n) (test : n < k) (inv : (k ≤ 64) × (r < 2 ^ k) × (rem f n r ≡ rem f n y)) where
-  back : k - 1 + 1 ≡ k
-  back = sub-add-cancel (omega arith)
+returns : tie.Need-returns Inv-loop μ-loop
+returns c =
+    let s = c .before in
+    sym (rem-constant (s .args .f) (s .args .n) (s .pre .1) (c .if1 .taken) (s .args .y))
 
-  below : r < 2 ^ (k - 1 + 1)
-  below = rw back (inv .1)
+returns-2 : tie.Need-returns-2 Inv-loop μ-loop
+returns-2 c =
+    let s = c .before .before in
+    let h : s .args .width ≤ s .args .n = c .if2 .taken in
+    sym (rem-small (s .args .f) (s .args .n) (s .args .y) (omega (arith, pow-mono h, s .pre .2)))
 
-  top : r / 2 ^ (k - 1) < 2
-  top = top-lt (k - 1) r (rw pow-next at below)
+sub-up : tie.Need-sub-up Inv-loop μ-loop
+sub-up c = search needs
 
-  -- nothing of f is shifted out
-  shifted : f * 2 ^ (k - 1 - n) % 2 ^ 64 ≡ f * 2 ^ (k - 1 - n)
-  shifted = shl-exact (n + 1) (k - 1 - n) 64 (deg .high) (omega (arith, inv .0))
+cast-low : tie.Need-cast-low Inv-loop μ-loop
+cast-low c = search needs
 
-  turn : (p : ℕ) → p ≡ (r / 2 ^ (k - 1)) * (f * 2 ^ (k - 1 - n) % 2 ^ 64)
-      → (k - 1 ≤ 64) × (bitXor r p < 2 ^ (k - 1)) × (rem f n (bitXor r p) ≡ rem f n y)
-  unfolding _⊕_
-  turn p e =
-      let w = rem-walk f n deg (k - 1) r (omega arith) below in
-      let s : p ≡ (r / 2 ^ (k - 1)) * (f * 2 ^ (k - 1 - n)) = e ∙ ap (λ (x : ℕ). (r / 2 ^ (k - 1)) * x) shifted in
-      (omega (arith, inv .0), rw s (w .0), rw s (w .1) ∙ inv .2)
-
-loop-holds : tie.Need-loop-holds Inv-loop μ-loop
-loop-holds c = (c .pre .0, c .pre .2, refl)
+shl-low : tie.Need-shl-low Inv-loop μ-loop
+shl-low c = search needs
 
 sub-k : tie.Need-sub-k Inv-loop μ-loop
-sub-k c = omega arith
+sub-k c = search needs
 
-cast-picked : tie.Need-cast-picked Inv-loop μ-loop
-cast-picked c = omega arith
+cast-r : tie.Need-cast-r Inv-loop μ-loop
+cast-r c = search needs
 
-shr-picked : tie.Need-shr-picked Inv-loop μ-loop
-shr-picked c = omega arith
+shl-r : tie.Need-shl-r Inv-loop μ-loop
+shl-r c = search needs
 
-sub-picked : tie.Need-sub-picked Inv-loop μ-loop
-sub-picked c = omega arith
+loop-holds : tie.Need-loop-holds Inv-loop μ-loop
+loop-holds c =
+    let s = c .before .before in
+    (omega arith, rem-fits _ (s .args .y) (s .args .width) _ (s .pre .2) (omega arith))
 
-cast-picked-2 : tie.Need-cast-picked-2 Inv-loop μ-loop
-cast-picked-2 c = omega arith
+add-k : tie.Need-add-k Inv-loop μ-loop
+add-k c = search needs
 
-shl-picked : tie.Need-shl-picked Inv-loop μ-loop
-shl-picked c = omega arith
-
-picked-requires : tie.Need-picked-requires Inv-loop μ-loop
-picked-requires c κs =
-    let l = c .before in
-    let s = l .before in
-    top (s .args .f) (s .args .n) (s .args .y) (l .loop .k) (l .loop .r) (s .pre .1) (c .loop-test .taken) (l .loop .inv)
+times-x-requires : tie.Need-times-x-requires Inv-loop μ-loop
+times-x-requires c κs = search needs
 
 loop-less : tie.Need-loop-less Inv-loop μ-loop
-loop-less c = omega arith
+loop-less c = search needs
 
 loop-again : tie.Need-loop-again Inv-loop μ-loop
 loop-again c =
     let l = c .before .before in
-    let s = l .before in
-    turn (s .args .f) (s .args .n) (s .args .y) (l .loop .k) (l .loop .r) (s .pre .1) (c .before .loop-test .taken) (l .loop .inv) (c .picked .result) (c .picked .ensures)
+    let s = l .before .before .before in (
+      omega arith,
+      rem-turn _ 64 (raised-degree _ (mod-lt _ (pow-pos 64))) (s .args .y) (l .loop .k) (l .loop .r) (c .times-x .result) (l .loop .inv .1) (c .times-x .ensures),
+    )
 
-returns : tie.Need-returns Inv-loop μ-loop
-returns c =
+cast-result : tie.Need-cast-result Inv-loop μ-loop
+cast-result c = search needs
+
+shr-result : tie.Need-shr-result Inv-loop μ-loop
+shr-result c = search needs
+
+returns-3 : tie.Need-returns-3 Inv-loop μ-loop
+returns-3 c =
     let l = c .before in
-    let s = l .before in
-    rem-walked (s .args .f) (s .args .n) (s .pre .1) (l .loop .k) (l .loop .r) (s .args .y) (c .loop-test .left) (l .loop .inv .1) (l .loop .inv .2)
+    let s = l .before .before .before in
+    let top : l .loop .k ≡ 64 - s .args .n = omega arith in
+    rem-lowered (s .args .f) (s .args .n) (64 - s .args .n) (s .args .y) (l .loop .r) (s .pre .1) (omega arith) (rw top at (l .loop .inv .1))
 
 pub remainder-spec : {M : Type 1} → statement M
 remainder-spec =
@@ -89,14 +89,19 @@ remainder-spec =
     (tie.spec
     Inv-loop
     μ-loop
-    loop-holds
+    returns
+    returns-2
+    sub-up
+    cast-low
+    shl-low
     sub-k
-    cast-picked
-    shr-picked
-    sub-picked
-    cast-picked-2
-    shl-picked
-    picked-requires
+    cast-r
+    shl-r
+    loop-holds
+    add-k
+    times-x-requires
     loop-less
     loop-again
-    returns)
+    cast-result
+    shr-result
+    returns-3)
