@@ -136,7 +136,7 @@ static void run_search(const Search &search, const char *program, Found (*found_
             times.push_back(now() - start);
         }
     }
-    std::printf("search %s %s %ld %.1f\n", search.name, program, done, median(times) * 1e9 / double(one << done));
+    std::printf("search %s %s %ld %.3f\n", search.name, program, done, median(times) * 1e9 / double(one << done));
 }
 
 int main(int count, char **words) {

@@ -1,7 +1,7 @@
 //! The searches: two whole fields, and two ranges at degree 46.
 //!
 //! At degree 46 the leaders of the ranges lie so densely that a search of 2^20
-//! elements can take minutes, so each program goes through the first 2^10,
+//! elements can take most of a minute, so each program goes through the first 2^10,
 //! 2^12, .. elements until the next step would pass its time. The time of an
 //! element is that of the longest step; the answers of all steps are compared.
 
@@ -126,7 +126,7 @@ pub fn run(seconds: f64) {
             let k = search.steps[program.done - 1];
             let element = median(program.times) * 1e9 / (1u64 << k) as f64;
             println!(
-                "search {} {} {} {:.1}",
+                "search {} {} {} {:.3}",
                 search.name, program.name, k, element
             );
         }

@@ -1,5 +1,5 @@
 -- Squaring k times in a row is additive and multiplicative (Frobenius), for every f; what leaves x leaves every element; the
--- k-th conjugate is the power with exponent 2 ^ k.
+-- k-th conjugate is the power with exponent 2 ^ k. `squared-start`, `squared-turn`: where a loop that squares starts, and one turn of it.
 -- Assumes nothing.
 use mathlib.Core.Path.{_≡_, refl, sym, ap, ap₂, _∙_}
 use mathlib.Core.Logic.{⊎-elim}

@@ -1,8 +1,9 @@
 -- Polynomials moved up to the top of a 64-bit word, where remainders and products are computed.
 --
 --   rem-raised                    moved up by k, a remainder modulo f is one modulo f * 2 ^ k
+--   raised-degree                 2 ^ 64 + low has degree 64
 --   times-x-raised                x times a modulo 2 ^ 64 + low: the coefficient that leaves the word is taken away with low
---   rem-fits                      where a polynomial moved up still fits into the word it is its own remainder
+--   rem-fits                      where a polynomial moved up still fits into the word, it is its own remainder
 --   rem-lowered, mulMod-lowered   f moved up is 2 ^ 64 + low, so a remainder or a product modulo that, moved down, is one modulo f
 --
 -- Assumes nothing.
@@ -14,7 +15,7 @@ use native.Mathlib.Omega.{arith}
 use lib.Pow.{shl-lt, shl-exact, shl-shr}
 use Rattle.gf2.specs.Poly.{_⊕_, product, reduce, rem, mulMod, Degree}
 use Rattle.gf2.specs.Numbers.{order}
-use Rattle.gf2.specs.Sum.{⊕-zero, ⊕-comm, ⊕-middle, ⊕-low, ⊕-shl}
+use Rattle.gf2.specs.Sum.{⊕-zero, ⊕-comm, ⊕-middle, ⊕-top, ⊕-shl}
 use Rattle.gf2.specs.Product.{product-shift-l, product-shift-r}
 use Rattle.gf2.specs.Degrees.{degree-shift}
 use Rattle.gf2.specs.Remainder.{reduce-small, reduce-large, rem-small, rem-lt, rem-quotient, rem-unique, mulMod-zero-l}
@@ -37,9 +38,6 @@ raised-degree low h = record { low = omega arith; high = omega arith }
 top-falls : (g : ℕ) → Degree g 64 → 2 ^ 64 + g % 2 ^ 64 ≡ g
 top-falls g d = omega (arith, d .low, d .high)
 
-top-apart : (x : ℕ) → x < 2 ^ 64 → 2 ^ 64 ⊕ x ≡ 2 ^ 64 + x
-top-apart x h = ⊕-low 1 64 x h
-
 -- the coefficient that a shift moves out of the word is taken away with low
 pub times-x-raised : (low a : ℕ) → low < 2 ^ 64 → a < 2 ^ 64 → a * 2 % 2 ^ 64 ⊕ (a / 2 ^ 63) * low ≡ reduce (2 ^ 64 + low) 64 (a * 2)
 times-x-raised low a hl ha =
@@ -55,7 +53,7 @@ times-x-raised low a hl ha =
     let s : a * 2 ≡ 2 ^ 64 + t = omega arith in
     rw (z, one-mul)
     (sym (⊕-middle t (2 ^ 64) low)
-    ∙ rw (⊕-comm t (2 ^ 64), top-apart t (omega arith), top-apart low hl, ← s) (sym (reduce-large g 64 (a * 2) h))))
+    ∙ rw (⊕-comm t (2 ^ 64), ⊕-top 64 t (omega arith), ⊕-top 64 low hl, ← s) (sym (reduce-large g 64 (a * 2) h))))
     (order (a * 2) (2 ^ 64))
 
 -- no coefficient has left the word yet, so none is to be taken away

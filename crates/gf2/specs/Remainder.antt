@@ -28,11 +28,11 @@ reduce-large f n y h = rw (le-ltb y (2 ^ n) h)
 top-one : (n y : ℕ) → 2 ^ n ≤ y → y < 2 ^ n * 2 → y / 2 ^ n ≡ 1
 top-one n y l h = div-eq-of-lt-le {k = 1} (2 ^ n) (omega arith) (omega arith)
 
-pub top-lt : (n y : ℕ) → y < 2 ^ n * 2 → y / 2 ^ n < 2
+top-lt : (n y : ℕ) → y < 2 ^ n * 2 → y / 2 ^ n < 2
 top-lt n y h = div-lt-iff-lt-mul (pow-pos n) .1 (omega arith)
 
 -- the highest coefficient times f is taken away
-pub reduce-is : (f n y : ℕ) → y < 2 ^ n * 2 → reduce f n y ≡ y ⊕ (y / 2 ^ n) * f
+reduce-is : (f n y : ℕ) → y < 2 ^ n * 2 → reduce f n y ≡ y ⊕ (y / 2 ^ n) * f
 reduce-is f n y h = go (order y (2 ^ n))
   where
     go : (y < 2 ^ n) ⊎ (2 ^ n ≤ y) → reduce f n y ≡ y ⊕ (y / 2 ^ n) * f
@@ -169,7 +169,7 @@ module _ (f n : ℕ) (deg : Degree f n) where
   rem-multiple q = sym (rem-product-r q f) ∙ rw (rem-self, product-zero-r) (rem-zero f n)
 
   -- what differs by a multiple of f has the same remainder
-  pub rem-same : (q a : ℕ) → rem f n (product q f ⊕ a) ≡ rem f n a
+  rem-same : (q a : ℕ) → rem f n (product q f ⊕ a) ≡ rem f n a
   rem-same q a = rw (rem-⊕, rem-multiple q) (zero-⊕ _)
 
   -- the remainder is the one number below 2 ^ n that differs from a by a multiple of f

@@ -31,7 +31,7 @@ module _ (f n : ℕ) (deg : Degree f n) where
 
   -- ---- the walk of the remainder
 
-  -- r is that of y moved up by k, and is moved up by one more
+  -- r is the remainder of y moved up by k; x times r, reduced, is that of y moved up by k + 1
   pub rem-turn : (y k r r′ : ℕ) → r ≡ rem f n (y * 2 ^ k) → r′ ≡ reduce f n (r * 2) → r′ ≡ rem f n (y * 2 ^ (k + 1))
   rem-turn y k r r′ p q = rw (q, p, pow-next, ← mul-assoc) (sym (rem-double f n deg (y * 2 ^ k)))
 

@@ -106,6 +106,9 @@ pub ⊕-low : (a k b : ℕ) → b < 2 ^ k → a * 2 ^ k ⊕ b ≡ a * 2 ^ k + b
 unfolding _⊕_
 ⊕-low a k b h = xor-shifted a k b h
 
+pub ⊕-top : (k b : ℕ) → b < 2 ^ k → 2 ^ k ⊕ b ≡ 2 ^ k + b
+⊕-top k b h = rw one-mul at (⊕-low 1 k b h)
+
 pub ⊕-digit : (a d : ℕ) → d < 2 → a * 2 ⊕ d ≡ a * 2 + d
 ⊕-digit a d h = ⊕-low a 1 d h
 

@@ -1,4 +1,4 @@
-// The remainder modulo a polynomial.
+// The remainder modulo a polynomial, with two steps that products take too: `picked` and `times_x`.
 ghost use mathlib.Core.Path.{_≡_};
 ghost use Prim.Native.Nat.{_+_, _*_, _^_, _≤_, _<_};
 ghost use Rattle.gf2.specs.Poly.{reduce, rem, Degree};

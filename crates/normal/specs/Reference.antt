@@ -10,13 +10,13 @@ use mathlib.Core.Path.{_≡_, refl, sym, ap, _∙_}
 use mathlib.Core.Logic.{⊎-elim}
 use mathlib.Core.Bool.{true, false}
 use Prim.Native.Nat.{ℕ, zero, suc, _+_, _-_, _*_, _^_, _≤_, _<_}
-use native.Mathlib.Nat.{one-mul, pow-suc}
+use native.Mathlib.Nat.{pow-suc}
 use native.Mathlib.Omega.{arith}
 use lib.ListN.{getD}
 use Rattle.gf2.specs.Poly.{_⊕_, product, reduce, rem, mulMod, Degree}
 use Rattle.gf2.specs.Numbers.{order, pow-next}
 use Rattle.gf2.specs.Bounded.{not-true-false}
-use Rattle.gf2.specs.Sum.{⊕-comm, ⊕-low, ⊕-digit, ⊕-middle}
+use Rattle.gf2.specs.Sum.{⊕-comm, ⊕-digit, ⊕-middle, ⊕-top}
 use Rattle.gf2.specs.Product.{product-double-l}
 use Rattle.gf2.specs.Remainder.{reduce-small, reduce-large, rem-small, rem-double, mulMod-zero-r}
 use Rattle.field.specs.Field.{squared}
@@ -44,7 +44,7 @@ module _ (n : ℕ) (pos : 1 ≤ n) where
       let y : ℕ = w - 2 ^ (n - 1) in
       let x : ℕ = w * 2 - 2 ^ n in
       let t : x ≡ y * 2 = omega (arith, half-power n pos) in
-      let apart : (z : ℕ) → z < 2 ^ n → 2 ^ n + z ≡ 2 ^ n ⊕ z = λ z hz. sym (rw one-mul at (⊕-low 1 n z hz)) in
+      let apart : (z : ℕ) → z < 2 ^ n → 2 ^ n + z ≡ 2 ^ n ⊕ z = λ z hz. sym (⊕-top n z hz) in
       let s : w * 2 ≡ 2 ^ n + x = omega arith in
       ap (λ (z : ℕ). z ⊕ (2 ^ n + 1)) (s ∙ apart x (omega arith) ∙ ⊕-comm (2 ^ n) x)
       ∙ ap (λ (z : ℕ). x ⊕ 2 ^ n ⊕ z) (apart 1 (one-lt n pos))

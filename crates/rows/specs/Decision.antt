@@ -1,5 +1,5 @@
 -- A matrix has an inverse or a dependency: the insertion, carried out in the laws. So its rows are independent exactly if it
--- has an inverse, and an inverse on one side is one on both. `independent-means`: the test of independence says what it should.
+-- has an inverse, and an inverse on the right is one on the left too. `independent-means`: the test of independence says what it should.
 -- Assumes nothing.
 use mathlib.Core.Path.{_≡_, refl, sym, ap, _∙_}
 use mathlib.Core.Logic.{_⊎_, inl, inr, _↔_, ⊎-elim}

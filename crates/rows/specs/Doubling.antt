@@ -11,7 +11,7 @@ use mathlib.Core.Path.{_≡_, refl, sym, ap, _∙_}
 use mathlib.Core.Logic.{⊎-elim}
 use mathlib.Core.List.{List}
 use Prim.Native.Nat.{ℕ, zero, suc, _+_, _-_, _*_, _/_, _%_, _^_, _≤_, _<_}
-use native.Mathlib.Nat.{not-suc-le-zero, add-zero, one-mul, pow-suc}
+use native.Mathlib.Nat.{not-suc-le-zero, add-zero, pow-suc}
 use native.Mathlib.Numerals.{add-one}
 use native.Mathlib.Omega.{arith}
 use lib.Arith.{lt-one}
@@ -19,7 +19,7 @@ use lib.ListN.{length, getD, set, drop, length-set}
 use lib.Seq.{getD-set-same, getD-set-other, ext-getD}
 use Rattle.gf2.specs.Poly.{_⊕_}
 use Rattle.gf2.specs.Numbers.{order}
-use Rattle.gf2.specs.Sum.{⊕-comm, ⊕-low}
+use Rattle.gf2.specs.Sum.{⊕-comm, ⊕-top}
 use Rattle.rows.specs.Rows.{comb}
 use Rattle.rows.specs.Sums.{comb-⊕, comb-zero, comb-power}
 use Rattle.rows.specs.ByteSums.{byteSums, byteSums-at, byteSums-length}
@@ -85,7 +85,7 @@ module _ (at : ℕ) (rows sums : List ℕ) where
   -- a number with the bit t picks row t beside what the bits below pick
   comb-next : (t b : ℕ) → b < 2 ^ t → comb rows b ⊕ getD rows t 0 ≡ comb rows (2 ^ t + b)
   comb-next t b h =
-      let apart : 2 ^ t ⊕ b ≡ 2 ^ t + b = rw one-mul at (⊕-low 1 t b h) in
+      let apart : 2 ^ t ⊕ b ≡ 2 ^ t + b = ⊕-top t b h in
       ap (λ (x : ℕ). comb rows b ⊕ x) (sym (comb-power rows t))
       ∙ ⊕-comm (comb rows b) (comb rows (2 ^ t))
       ∙ sym (comb-⊕ rows (2 ^ t) b)

@@ -19,7 +19,7 @@ use lib.ListN.{getD, replicate}
 use lib.Pow.{pow-pos, pow-mono}
 use Rattle.gf2.specs.Poly.{_⊕_}
 use Rattle.gf2.specs.Numbers.{bitCases, order, pow-next}
-use Rattle.gf2.specs.Sum.{zero-⊕, ⊕-self, ⊕-comm, ⊕-cancel, ⊕-middle, ⊕-eq-zero, ⊕-lt, ⊕-low}
+use Rattle.gf2.specs.Sum.{zero-⊕, ⊕-self, ⊕-comm, ⊕-cancel, ⊕-middle, ⊕-eq-zero, ⊕-lt, ⊕-top}
 use Rattle.rows.specs.Rows.{comb, Dependency}
 use Rattle.rows.specs.Linear.{linear-ext, linear-after}
 use Rattle.rows.specs.Sums.{comb-⊕, comb-zero, comb-power, comb-lt, comb-sums, zeros-at}
@@ -66,13 +66,10 @@ same-top : (k v w : ℕ) → 2 ^ k ≤ v → v < 2 ^ k * 2 → 2 ^ k ≤ w → w
 same-top k v w lv hv lw hw =
     let x : ℕ = v - 2 ^ k in
     let y : ℕ = w - 2 ^ k in
-    let ev : x ⊕ 2 ^ k ≡ v = ⊕-comm x (2 ^ k) ∙ top x (omega arith) ∙ omega arith in
-    let ew : 2 ^ k ⊕ y ≡ w = top y (omega arith) ∙ omega arith in
+    let ev : x ⊕ 2 ^ k ≡ v = ⊕-comm x (2 ^ k) ∙ ⊕-top k x (omega arith) ∙ omega arith in
+    let ew : 2 ^ k ⊕ y ≡ w = ⊕-top k y (omega arith) ∙ omega arith in
     let e : v ⊕ w ≡ x ⊕ y = ap₂ _⊕_ (sym ev) (sym ew) ∙ ⊕-middle x (2 ^ k) y in
     rw e (⊕-lt k x y (omega arith) (omega arith))
-  where
-    top : (z : ℕ) → z < 2 ^ k → 2 ^ k ⊕ z ≡ 2 ^ k + z
-    top z h = rw one-mul at (⊕-low 1 k z h)
 
 -- ---- the start
 
@@ -132,7 +129,7 @@ module _ {C : List ℕ} {n k : ℕ} {a b : List ℕ} {p : ℕ} (in-place : Inser
         let fs : s ≡ comb a row = es ∙ idle-all a idle-row row h in
         let fu : u ≡ comb b row = eu ∙ idle-all b (in-place .idle) row h in
         let l : u < 2 ^ k = rw fu (comb-lt k b (in-place .names) row) in
-        let t : o ⊕ u ≡ 2 ^ k + u = ap (λ (x : ℕ). x ⊕ u) (eo ∙ sym (one-mul (2 ^ k))) ∙ ⊕-low 1 k u l ∙ rw one-mul in
+        let t : o ⊕ u ≡ 2 ^ k + u = ap (λ (x : ℕ). x ⊕ u) eo ∙ ⊕-top k u l in
         record {
           name =
               ap₂ _⊕_ (sym (comb-power C k)) (fs ∙ sums-all row ∙ ap (comb C) (sym fu))

@@ -17,7 +17,7 @@ use Rattle.gf2.specs.Numbers.{order}
 use Rattle.gf2.specs.Sum.{⊕-self, ⊕-lt, ⊕-eq-zero}
 use Rattle.gf2.specs.Bounded.{not-both}
 use Rattle.rows.specs.declared.inversion.Inverted.{Inverted}
-use Rattle.rows.specs.Rows.{comb, Matrix, Independent, Inverse, Dependency, InvertsAs, Inverts}
+use Rattle.rows.specs.Rows.{comb, Independent, Inverse, Dependency, InvertsAs, Inverts}
 use Rattle.rows.specs.Linear.{linear-ext, linear-same, linear-after}
 use Rattle.rows.specs.Sums.{comb-⊕, comb-zero, comb-power}
 
@@ -48,9 +48,6 @@ module _ (rows : List ℕ) (n : ℕ) (inv : List ℕ) (inverse : Inverse rows n 
 
   pub inverse-independent : Independent rows n
   inverse-independent v p h e = let z : v ≡ 0 = sym (inverse-left v h) ∙ ap (comb inv) e ∙ comb-zero inv in omega arith
-
-  pub inverse-sym : Matrix rows n → Inverse inv n rows
-  inverse-sym m = record { shape = m; right = inverse .left; left = inverse .right }
 
   pub inverse-unique-at : (other : List ℕ) → Inverse rows n other → (i : ℕ) → getD inv i 0 ≡ getD other i 0
   inverse-unique-at other o i =

@@ -8,14 +8,14 @@
 use mathlib.Core.Path.{_≡_, refl, sym, ap, ap₂, _∙_}
 use mathlib.Core.Logic.{⊎-elim}
 use Prim.Native.Nat.{ℕ, zero, suc, _*_, _/_, _%_, _^_, _<_}
-use native.Mathlib.Nat.{zero-mul, one-mul, mul-one, mul-assoc, pow-suc, mod-lt}
+use native.Mathlib.Nat.{zero-mul, one-mul, mod-lt}
 use native.Mathlib.Numerals.{one-add}
 use native.Mathlib.Omega.{arith}
 use lib.Arith.{lt-one}
 use lib.Pow.{pow-pos, split, shr-lt}
 use Rattle.gf2.specs.Poly.{_⊕_}
 use Rattle.gf2.specs.Numbers.{bitCases}
-use Rattle.gf2.specs.Sum.{zero-⊕, ⊕-self, ⊕-four, ⊕-double, ⊕-low}
+use Rattle.gf2.specs.Sum.{zero-⊕, ⊕-self, ⊕-four, ⊕-low, ⊕-shl}
 
 abbrev pub Linear : (f : ℕ → ℕ) → Type 0
 Linear f = (v w : ℕ) → f (v ⊕ w) ≡ f v ⊕ f w
@@ -59,7 +59,4 @@ pub linear-⊕ : (f g : ℕ → ℕ) → Linear f → Linear g → Linear (λ v.
 linear-⊕ f g lf lg v w = ap₂ _⊕_ (lf v w) (lg v w) ∙ ⊕-four (f v) (f w) (g v) (g w)
 
 pub linear-shift : (k : ℕ) → Linear (λ v. v * 2 ^ k)
-linear-shift zero v w = simp mul-one
-linear-shift (suc k) v w =
-    rw (pow-suc, ← mul-assoc (v ⊕ w) (2 ^ k) 2, ← mul-assoc v (2 ^ k) 2, ← mul-assoc w (2 ^ k) 2, linear-shift k v w)
-    (⊕-double (v * 2 ^ k) (w * 2 ^ k))
+linear-shift k v w = ⊕-shl v w k

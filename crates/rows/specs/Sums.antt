@@ -1,16 +1,16 @@
 -- Laws of `comb`, the sum of the rows that the bits of a number pick. In order: one row more; linear in the number; a power
--- of two picks its row; bounds; rows that agree; a linear function of a sum, and so a sum of sums; rows
--- past the end; turns of the loop that sums.
+-- of two picks its row; bounds; rows that agree; a linear function of a sum, and so a sum of sums; rows from a place upward;
+-- turns of the loop that sums.
 -- Assumes nothing.
 use mathlib.Core.Path.{_≡_, refl, sym, ap, _∙_}
 use mathlib.Core.Logic.{⊎-elim}
-use mathlib.Core.List.{List, [], _∷_, map}
+use mathlib.Core.List.{List, [], _∷_}
 use Prim.Native.Nat.{ℕ, zero, suc, _+_, _-_, _*_, _/_, _%_, _^_, _≤_, _<_}
 use native.Mathlib.Nat.{zero-mul, one-mul, pow-suc, add-zero, add-comm, mul-zero}
 use native.Mathlib.Omega.{arith}
 use lib.Arith.{lt-one}
 use lib.Pow.{pow-pos, pow-add}
-use lib.ListN.{getD, take, drop, replicate, List·getD-map}
+use lib.ListN.{getD, take, drop, replicate}
 use lib.Seq.{getD-take, getD-drop, drop-drop}
 use Rattle.gf2.specs.Poly.{_⊕_}
 use Rattle.gf2.specs.Numbers.{order, mod-two-lt}
@@ -94,9 +94,6 @@ below-power (suc v) = rw pow-suc (omega (arith, below-power v))
 pub comb-same : (A B : List ℕ) → ((i : ℕ) → getD A i 0 ≡ getD B i 0) → (v : ℕ) → comb A v ≡ comb B v
 comb-same A B h v = comb-ext v A B (λ i l. h i) v (below-power v)
 
-pub comb-rows-zero : (rows : List ℕ) → ((i : ℕ) → getD rows i 0 ≡ 0) → (v : ℕ) → comb rows v ≡ 0
-comb-rows-zero rows h v = comb-same rows [] h v ∙ comb-nil v
-
 -- ---- a linear function of a sum of rows is the sum of its values at the rows
 
 pub linear-rows : (f : ℕ → ℕ) → Linear f → (A B : List ℕ) → ((i : ℕ) → getD A i 0 ≡ f (getD B i 0)) → (v : ℕ) → comb A v ≡ f (comb B v)
@@ -104,12 +101,6 @@ linear-rows f l A B h v =
     linear-ext (comb A) (λ w. f (comb B w)) (comb-⊕ A) (linear-after f (comb B) l (comb-⊕ B)) v
     (λ i q. comb-power A i ∙ h i ∙ ap f (sym (comb-power B i)))
     v (below-power v)
-
-pub getD-map-linear : (f : ℕ → ℕ) → Linear f → (B : List ℕ) (i : ℕ) → getD (map f B) i 0 ≡ f (getD B i 0)
-getD-map-linear f l B i = ap (getD (map f B) i) (sym (linear-zero f l)) ∙ List·getD-map f B i 0
-
-pub linear-comb : (f : ℕ → ℕ) → Linear f → (B : List ℕ) (v : ℕ) → f (comb B v) ≡ comb (map f B) v
-linear-comb f l B v = sym (linear-rows f l (map f B) B (getD-map-linear f l B) v)
 
 -- a sum of sums, which stand in a list of their own
 pub comb-sums : (C A B : List ℕ) → ((i : ℕ) → getD A i 0 ≡ comb C (getD B i 0)) → (v : ℕ) → comb A v ≡ comb C (comb B v)

@@ -1,8 +1,8 @@
-// Powers of x, which are powers of two, and the number of binary digits.
+// Powers of two, and the number of binary digits.
 ghost use mathlib.Core.Path.{_≡_};
 ghost use Prim.Native.Nat.{_+_, _*_, _^_, _≤_, _<_};
 
-// x^k as a number.
+// 2^k, which as a polynomial is x^k.
 pub fn power(k: usize) -> u64
     requires { ⌜ k < 64 ⌝ }
     ensures { λ r. ⌜ r ≡ 2 ^ k ⌝ }

@@ -1,9 +1,10 @@
 -- Coordinates of what is not reduced. The coordinates of x ^ n to x ^ (2n - 1) in the basis of the reference b, as the rows of a matrix, give
 -- those of every multiple of x ^ n of degree below 2n, so that a product is turned into coordinates without being reduced.
 --
---   upperRows f n b   row i: the coordinates of x ^ (n + i) in the basis of b; "entries from n upward are zero"
+--   upperRows f n b                      row i: the coordinates of x ^ (n + i) in the basis of b; "entries from n upward are zero"
+--   Tables f n b squares sums uppers     what a walk has at hand: the byte sums of squares, and those of coordinates in the basis of b
 --
--- Assumes nothing.
+-- In order: what bits and bytes pick; the coordinates of a product that is not reduced; the rows one by one. Assumes nothing.
 use mathlib.Core.Path.{_≡_, sym, ap, ap₂, _∙_}
 use mathlib.Core.List.{List}
 use Prim.Native.Nat.{ℕ, _+_, _-_, _*_, _^_, _≤_, _<_}
@@ -14,7 +15,7 @@ use lib.Pow.{pow-mono}
 use Rattle.gf2.specs.Poly.{_⊕_, rem, mulMod, Degree}
 use Rattle.gf2.specs.Limit.{limit}
 use Rattle.gf2.specs.Numbers.{pow-next}
-use Rattle.gf2.specs.Sum.{⊕-low, ⊕-comm, ⊕-cancel}
+use Rattle.gf2.specs.Sum.{⊕-low, ⊕-comm, ⊕-cancel, ⊕-top}
 use Rattle.gf2.specs.Product.{product-one-l}
 use Rattle.gf2.specs.Remainder.{rem-small, rem-⊕, rem-unique}
 use Rattle.field.specs.Ring.{mulMod-comm, mulMod-x}
@@ -25,11 +26,19 @@ use Rattle.rows.specs.ByteSums.{bytes, byteSums, pickedBytes, bytes-pick}
 use Rattle.normal.specs.Normal.{inverseRows, listed, padded}
 use Rattle.normal.specs.Coordinates.{listed-at}
 use Rattle.normal.specs.Filling.{padded-at}
+use Rattle.search.specs.Squares.{squareRows}
 use Rattle.search.specs.Through.{Reference, picked-comb}
 use Rattle.search.specs.Windows.{Unreduced}
 
 unfoldable pub upperRows : (f n b : ℕ) → List ℕ
 upperRows f n b = padded (listed n (λ i. comb (inverseRows f n b) (rem f n (2 ^ i * 2 ^ n))))
+
+pub record Tables (f n b : ℕ) (squares sums uppers : List ℕ) : Type 0 where
+  pub reference : Reference f n b sums
+  pub of-squares : squares ≡ byteSums bytes (squareRows f n)
+  pub of-uppers : uppers ≡ byteSums bytes (upperRows f n b)
+
+-- ---- what bits and bytes pick
 
 module _ (f n : ℕ) (deg : Degree f n) (b : ℕ) (h : ℕ) (l : h < 2 ^ n) where
   -- bits pick the coordinates
@@ -49,7 +58,8 @@ module _ (f n : ℕ) (deg : Degree f n) (b : ℕ) (h : ℕ) (l : h < 2 ^ n) wher
   upper-picked : n ≤ limit → pickedBytes bytes (byteSums bytes (upperRows f n b)) h ≡ comb (inverseRows f n b) (rem f n (h * 2 ^ n))
   upper-picked small = bytes-pick bytes (upperRows f n b) h (omega (arith, pow-mono small)) ∙ upper-sum
 
--- the coordinates of a product that is not reduced
+-- ---- a product that is not reduced
+
 pub wide-coordinates : (f n b : ℕ) (sums uppers : List ℕ) → Reference f n b sums → uppers ≡ byteSums bytes (upperRows f n b)
     → (y c low high : ℕ) → Unreduced f n y c low high
     → bitXor (pickedBytes bytes sums low) (pickedBytes bytes uppers high) ≡ comb (inverseRows f n b) (mulMod f n y c)
@@ -70,15 +80,15 @@ wide-coordinates f n b sums uppers ref eu y c low high u =
 
 module _ (f n : ℕ) (deg : Degree f n) where
   -- x ^ n comes to f without its term x ^ n
-  pub top-apart : (p : ℕ) → p ≡ 2 ^ n → f - p ≡ rem f n (2 ^ 0 * 2 ^ n)
-  top-apart p e =
+  pub power-reduced : (p : ℕ) → p ≡ 2 ^ n → f - p ≡ rem f n (2 ^ 0 * 2 ^ n)
+  power-reduced p e =
       let rest : ℕ = f - 2 ^ n in
       let high : f < 2 ^ n * 2 = rw pow-next at (deg .high) in
-      let whole : 2 ^ n ⊕ rest ≡ f =
-      ap (λ (x : ℕ). x ⊕ rest) (sym (one-mul (2 ^ n))) ∙ ⊕-low 1 n rest (omega (arith, deg .low)) ∙ omega (arith, deg .low) in
+      let whole : 2 ^ n ⊕ rest ≡ f = ⊕-top n rest (omega (arith, deg .low)) ∙ omega (arith, deg .low) in
       rw e
       (rem-unique f n deg (1 * 2 ^ n) 1 rest
-      (one-mul (2 ^ n) ∙ sym (ap (λ (x : ℕ). x ⊕ rest) (product-one-l f ∙ sym whole) ∙ ⊕-comm (2 ^ n ⊕ rest) rest ∙ ap (λ (x : ℕ). rest ⊕ x) (⊕-comm (2 ^ n) rest) ∙ ⊕-cancel rest (2 ^ n)))
+      (one-mul (2 ^ n) ∙ sym (ap (λ (x : ℕ). x ⊕ rest) (product-one-l f ∙ sym whole) ∙ ⊕-comm (2 ^ n ⊕ rest) rest
+      ∙ ap (λ (x : ℕ). rest ⊕ x) (⊕-comm (2 ^ n) rest) ∙ ⊕-cancel rest (2 ^ n)))
       (omega (arith, deg .low)))
 
   pub next-power : (i y z : ℕ) → y ≡ rem f n (2 ^ i * 2 ^ n) → z ≡ mulMod f n y 2 → z ≡ rem f n (2 ^ (i + 1) * 2 ^ n)

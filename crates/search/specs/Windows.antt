@@ -6,13 +6,13 @@
 --   fourWindows m w              the sum of the lowest four
 --   Unreduced f n a b low high   low + high x ^ n is the product of a and b modulo f, in two numbers below 2 ^ n
 --
--- In order: the entries; sums of four of them are all 16; one window; four windows; one turn of the product, the first and the last; the
--- product modulo t ^ n + 1, which is the number 2 ^ n + 1. Assumes nothing.
+-- In order: the entries; sums of four of them are all 16; one window; four windows; the product: its start, one turn, its end; the product
+-- modulo t ^ n + 1, which is the number 2 ^ n + 1. Assumes nothing.
 use mathlib.Core.Path.{_≡_, sym, ap, ap₂, _∙_}
 use mathlib.Core.Logic.{⊎-elim}
 use mathlib.Core.List.{List, [], _∷_}
 use Prim.Native.Nat.{ℕ, _+_, _-_, _*_, _/_, _%_, _^_, _≤_, _<_}
-use native.Mathlib.Nat.{add-comm, zero-mul, one-mul, mul-one, div-one, div-eq-of-lt, mod-lt, mod-one, mod-eq-of-lt, sub-add-cancel}
+use native.Mathlib.Nat.{add-comm, zero-mul, mul-one, div-one, div-eq-of-lt, mod-lt, mod-one, mod-eq-of-lt, sub-add-cancel}
 use native.Mathlib.Omega.{arith}
 use lib.Bits.{bitAnd, bitXor, and-mask}
 use lib.ListN.{getD}
@@ -20,7 +20,7 @@ use lib.Pow.{pow-pos, pow-lt, pow-mono, shl-lt, shl-exact, shr-lt, shl-shr, shr-
 use Rattle.gf2.specs.Poly.{_⊕_, product, rem, mulMod, Degree}
 use Rattle.gf2.specs.Limit.{limit}
 use Rattle.gf2.specs.Numbers.{order}
-use Rattle.gf2.specs.Sum.{⊕-low, ⊕-lt, ⊕-comm, ⊕-zero, ⊕-four, ⊕-middle}
+use Rattle.gf2.specs.Sum.{⊕-low, ⊕-lt, ⊕-comm, ⊕-zero, ⊕-four, ⊕-middle, ⊕-top}
 use Rattle.gf2.specs.Product.{product-one-r, product-power, product-shift-r, product-⊕-r}
 use Rattle.gf2.specs.Remainder.{rem-zero, rem-⊕, rem-unique, rem-shift, mulMod-zero-r}
 use Rattle.field.specs.Ring.{mulMod-lt, mulMod-⊕-r, one-lt}
@@ -87,11 +87,13 @@ module _ (f n : ℕ) (deg : Degree f n) (small : n ≤ limit) (a : ℕ) where
       multiples-at f n a (w % 16) (omega arith)
       ∙ sym (window-is w 0 (omega arith) ∙ ap (λ (x : ℕ). mulMod f n a (x % 16) * 1) (div-one w) ∙ mul-one (mulMod f n a (w % 16)))
 
-  -- where w ends below the window, nothing is picked
+  -- the highest bit of w bounds what a window picks; above it nothing is picked
   window-lt : (w p j : ℕ) → j ≤ 12 → w < 2 ^ p → windowAt (multiplesOf f n a) w j < 2 ^ (n + p)
   window-lt w p j h l =
       ⊎-elim
-      (λ (q : j < p). rw (window-is w j h) (omega (arith, shl-lt n j (mulMod-lt f n deg a (w / 2 ^ j % 16)), pow-lt {i = n + j} {j = n + p} (omega arith))))
+      (λ (q : j < p).
+      let further : 2 ^ (n + j) < 2 ^ (n + p) = pow-lt {i = n + j} {j = n + p} (omega arith) in
+      rw (window-is w j h) (omega (arith, shl-lt n j (mulMod-lt f n deg a (w / 2 ^ j % 16)), further)))
       (λ (q : p ≤ j).
       let none : w / 2 ^ j ≡ 0 = div-eq-of-lt {n = w} {m = 2 ^ j} (omega (arith, pow-mono q)) in
       rw (window-is w j h, none, mulMod-zero-r f n a, zero-mul (2 ^ j)) (pow-pos (n + p)))
@@ -109,7 +111,9 @@ module _ (f n : ℕ) (deg : Degree f n) (small : n ≤ limit) (a : ℕ) where
       let s : ℕ = n + p in
       rw (window-lowest w)
       (⊕-lt s _ (windowAt m w 12)
-      (⊕-lt s _ (windowAt m w 8) (⊕-lt s (windowAt m w 0) (windowAt m w 4) (window-lt w p 0 (omega arith) h) (window-lt w p 4 (omega arith) h)) (window-lt w p 8 (omega arith) h))
+      (⊕-lt s _ (windowAt m w 8)
+      (⊕-lt s (windowAt m w 0) (windowAt m w 4) (window-lt w p 0 (omega arith) h) (window-lt w p 4 (omega arith) h))
+      (window-lt w p 8 (omega arith) h))
       (window-lt w p 12 (omega arith) h))
 
   four-rem : (w : ℕ) → rem f n (fourWindows (multiplesOf f n a) w) ≡ mulMod f n a (w % 65536)
@@ -131,7 +135,11 @@ module _ (f n : ℕ) (deg : Degree f n) (small : n ≤ limit) (a : ℕ) where
 
   pub wide-first : (b : ℕ) → Unreduced f n a (b % 2 ^ 0) 0 0
   wide-first b =
-      record { low-lt = pow-pos n; high-lt = pow-pos n; whole = rw (zero-mul (2 ^ n)) (rem-zero f n ∙ sym (ap (mulMod f n a) (mod-one b) ∙ mulMod-zero-r f n a)) }
+      record {
+        low-lt = pow-pos n;
+        high-lt = pow-pos n;
+        whole = rw (zero-mul (2 ^ n)) (rem-zero f n ∙ sym (ap (mulMod f n a) (mod-one b) ∙ mulMod-zero-r f n a));
+      }
 
   -- one more turn, at k
   wide-turn : (b k low high part : ℕ) → b < 2 ^ n → k < n → part ≡ fourWindows (multiplesOf f n a) (b / 2 ^ k) → Unreduced f n a (b % 2 ^ k) low high
@@ -184,10 +192,8 @@ module _ (f n : ℕ) (deg : Degree f n) (small : n ≤ limit) (a : ℕ) where
 pub wide-turned : (n : ℕ) → 1 ≤ n → (a b low high : ℕ) → Unreduced (2 ^ n + 1) n a b low high → bitXor low high ≡ mulMod (2 ^ n + 1) n a b
 unfolding _⊕_
 wide-turned n pos a b low high u =
-    let modulus : 2 ^ n ⊕ 1 ≡ 2 ^ n + 1 =
-    ap (λ (x : ℕ). x ⊕ 1) (sym (one-mul (2 ^ n))) ∙ ⊕-low 1 n 1 (one-lt n pos) ∙ ap (λ (x : ℕ). x + 1) (one-mul (2 ^ n)) in
     let multiple : product high (2 ^ n + 1) ≡ high * 2 ^ n ⊕ high =
-    ap (product high) (sym modulus) ∙ product-⊕-r high (2 ^ n) 1 ∙ ap₂ (λ (x y : ℕ). x ⊕ y) (product-power high n) (product-one-r high) in
+    ap (product high) (sym (⊕-top n 1 (one-lt n pos))) ∙ product-⊕-r high (2 ^ n) 1 ∙ ap₂ (λ (x y : ℕ). x ⊕ y) (product-power high n) (product-one-r high) in
     let parts : high * 2 ^ n + low ≡ product high (2 ^ n + 1) ⊕ (low ⊕ high) =
     sym (ap₂ (λ (x y : ℕ). x ⊕ y) multiple (⊕-comm low high) ∙ ⊕-middle (high * 2 ^ n) high low ∙ ⊕-low high n low (u .low-lt)) in
     rem-unique (2 ^ n + 1) n (turn-degree n pos) (high * 2 ^ n + low) high (low ⊕ high) parts (⊕-lt n low high (u .low-lt) (u .high-lt)) ∙ u .whole

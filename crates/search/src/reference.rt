@@ -11,9 +11,8 @@ ghost use Rattle.rows.specs.Rows.{comb};
 ghost use Rattle.rows.specs.ByteSums.{bytes, byteSums};
 ghost use Rattle.normal.specs.Normal.{inverseRows};
 ghost use Rattle.search.specs.Search.{leader, complexityAt, joined, candidateOf};
-ghost use Rattle.search.specs.Squares.{squareRows};
 ghost use Rattle.search.specs.Through.{Reference, withNext};
-ghost use Rattle.search.specs.Upper.{upperRows};
+ghost use Rattle.search.specs.Upper.{upperRows, Tables};
 ghost use Rattle.search.specs.Windows.{multiplesOf};
 ghost use Rattle.search.specs.declared.answer.Search.the-variants.{Found};
 use super::answer::Best;
@@ -73,7 +72,7 @@ fn complexity_within(
     r: u64,
     bound: u32,
 ) -> u32
-    requires { ⌜ Reference f n b (now sums) × (now uppers ≡ byteSums bytes (upperRows f n b)) × (now squares ≡ byteSums bytes (squareRows f n)) × (y < 2 ^ n) × (mulMod (2 ^ n + 1) n r (comb (inverseRows f n b) y) ≡ 1) × (r < 2 ^ n) ⌝ }
+    requires { ⌜ Tables f n b (now squares) (now sums) (now uppers) × (y < 2 ^ n) × (mulMod (2 ^ n + 1) n r (comb (inverseRows f n b) y) ≡ 1) × (r < 2 ^ n) ⌝ }
     ensures { λ k. ⌜ min bound k ≡ min bound (complexityAt f n y) ⌝ }
 {
     let ys = multiples(f, n, y);
@@ -142,7 +141,7 @@ pub fn join_through(
     found: Best,
     y: u64,
 ) -> Best
-    requires { ⌜ SpreadTable (now spread) × (now squares ≡ byteSums bytes (squareRows f n)) × Reference f n b (now sums) × (now uppers ≡ byteSums bytes (upperRows f n b)) × (y < 2 ^ n) × (leader f n y ≡ true) × (found .element ≤ y) × (found .count + 1 < 2 ^ 64) ⌝ }
+    requires { ⌜ SpreadTable (now spread) × Tables f n b (now squares) (now sums) (now uppers) × (y < 2 ^ n) × (leader f n y ≡ true) × (found .element ≤ y) × (found .count + 1 < 2 ^ 64) ⌝ }
     ensures { λ r. ⌜ Found r ≡ joined (Found found) (candidateOf f n y) ⌝ }
 {
     let witness = unit_of(n, sum_by_bytes(sums, y));

@@ -28,7 +28,7 @@ fn upper_rows(sums: &[u64; BYTE_SUMS], f: u64, n: u32, b: u64) -> [u64; LIMIT]
     rows
 }
 
-// The sums that bytes pick of them.
+// The byte sums of these rows.
 pub fn upper_sums(sums: &[u64; BYTE_SUMS], f: u64, n: u32, b: u64) -> [u64; BYTE_SUMS]
     requires { ⌜ Reference f n b (now sums) ⌝ }
     ensures { λ r. ⌜ r ≡ byteSums bytes (upperRows f n b) ⌝ }

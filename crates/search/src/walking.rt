@@ -12,8 +12,7 @@ ghost use Rattle.normal.specs.Normal.{complexity};
 ghost use Rattle.search.specs.Search.{normalLeader, joined, candidateOf, walked, ranged};
 ghost use Rattle.search.specs.Squares.{squareRows};
 ghost use Rattle.search.specs.Traces.{traceMask};
-ghost use Rattle.search.specs.Through.{Reference};
-ghost use Rattle.search.specs.Upper.{upperRows};
+ghost use Rattle.search.specs.Upper.{Tables};
 ghost use Rattle.search.specs.Begun.{FirstFrom, aloneBy};
 ghost use Rattle.search.specs.declared.answer.Search.the-variants.{Found};
 use super::answer::Best;
@@ -89,7 +88,7 @@ fn join_next(
     found: Best,
     a: u64,
 ) -> Best
-    requires { ⌜ SpreadTable (now spread) × (now squares ≡ byteSums bytes (squareRows f n)) × Reference f n b (now sums) × (now uppers ≡ byteSums bytes (upperRows f n b)) × (mask ≡ traceMask f n) × Irreducible f × (a < 2 ^ n) × (found .element ≤ a) × (found .count ≤ a) ⌝ }
+    requires { ⌜ SpreadTable (now spread) × Tables f n b (now squares) (now sums) (now uppers) × (mask ≡ traceMask f n) × Irreducible f × (a < 2 ^ n) × (found .element ≤ a) × (found .count ≤ a) ⌝ }
     ensures { λ r. ⌜ Found r ≡ joined (Found found) (candidateOf f n a) ⌝ }
 {
     if !has_trace(mask, f, n, a) {
@@ -115,7 +114,7 @@ fn walk_on(
     next: u64,
     last: u64,
 ) -> Best
-    requires { ⌜ SpreadTable (now spread) × (now squares ≡ byteSums bytes (squareRows f n)) × Reference f n b (now sums) × (now uppers ≡ byteSums bytes (upperRows f n b)) × (mask ≡ traceMask f n) × Irreducible f × (next ≤ last + 1) × (last < 2 ^ n) × (start .element ≤ next) × (start .count ≤ next) ⌝ }
+    requires { ⌜ SpreadTable (now spread) × Tables f n b (now squares) (now sums) (now uppers) × (mask ≡ traceMask f n) × Irreducible f × (next ≤ last + 1) × (last < 2 ^ n) × (start .element ≤ next) × (start .count ≤ next) ⌝ }
     ensures { λ r. ⌜ Found r ≡ joined (Found start) (walked f n next (last + 1 - next)) ⌝ }
 {
     let mut found = start;

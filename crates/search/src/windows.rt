@@ -55,7 +55,8 @@ fn four_windows(multiples: &[u64; 16], w: u64) -> u64
         ^ (multiples[((w >> 12) % 16) as usize] << 12)
 }
 
-// The product of a and b, not reduced, from the multiples of a. No turn waits for the one before it, as it would if each reduced.
+// A polynomial of degree below 2n that is the product of a and b modulo f, from the multiples of a. No turn waits for the one before it, as
+// it would if each reduced.
 pub fn wide_product(multiples: &[u64; 16], f: u64, n: u32, a: u64, b: u64) -> Wide
     requires { ⌜ (now multiples ≡ multiplesOf f n a) × (n ≤ limit) × Degree f n × (b < 2 ^ n) ⌝ }
     ensures { λ r. ⌜ Unreduced f n a b (r .low) (r .high) ⌝ }

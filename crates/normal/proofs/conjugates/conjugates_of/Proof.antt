@@ -1,13 +1,11 @@
 -- `normal::conjugates::conjugates_of` meets its contract. The invariant: the rows below i are the conjugates, and y is the next.
 -- The measure is what is left of n. Assumes nothing.
-use mathlib.Core.Path.{_≡_, refl, sym, ap, _∙_}
+use mathlib.Core.Path.{_≡_, sym, ap, _∙_}
 use mathlib.Core.List.{List}
-use Prim.Native.Nat.{ℕ, _+_, _-_, _≤_}
-use native.Mathlib.Numerals.{add-one}
+use Prim.Native.Nat.{ℕ, _-_, _≤_}
 use native.Mathlib.Omega.{arith}
-use Rattle.gf2.specs.Poly.{mulMod, Degree}
 use Rattle.field.specs.Field.{squared}
-use Rattle.field.specs.Frobenius.{squared-lt, squared-next}
+use Rattle.field.specs.Frobenius.{squared-start, squared-lt, squared-turn}
 use Rattle.gf2.specs.Limit.{limit}
 use Rattle.normal.specs.Normal.{conjugates, padded}
 use Rattle.normal.specs.Filling.{Filled, filled-start, filled-turn, filled-padded}
@@ -22,13 +20,6 @@ Inv-loop spread f n a rows₀ count y₀ i₀ rows y i =
 abbrev μ-loop : tie.MeasureT-loop
 μ-loop spread f n a rows₀ count y₀ i₀ rows y i = n - i
 
-start : (f n a : ℕ) → a ≡ squared f n 0 a
-unfolding squared
-start f n a = refl
-
-next : (f n : ℕ) → Degree f n → (i a y z : ℕ) → y ≡ squared f n i a → z ≡ mulMod f n y y → z ≡ squared f n (i + 1) a
-next f n deg i a y z inv e = e ∙ rw (inv, add-one) (squared-next f n deg i a)
-
 done : (f n a i : ℕ) (rows : List ℕ) → i ≤ n → n ≤ i → n ≤ limit → Filled rows i (λ j. squared f n j a) → rows ≡ padded (conjugates f n a)
 done f n a i rows p q small s =
     let e : i ≡ n = omega arith in
@@ -36,7 +27,7 @@ done f n a i rows p q small s =
 
 loop-holds : tie.Need-loop-holds Inv-loop μ-loop
 loop-holds c =
-    (omega arith, filled-start (λ j. squared (c .args .f) (c .args .n) j (c .args .a)), start (c .args .f) (c .args .n) (c .args .a))
+    (omega arith, filled-start (λ j. squared (c .args .f) (c .args .n) j (c .args .a)), squared-start (c .args .f) (c .args .n) (c .args .a))
 
 mul-rows : tie.Need-mul-rows Inv-loop μ-loop
 mul-rows c = omega (arith, c .before .before .pre .1)
@@ -66,7 +57,7 @@ loop-again c =
     let s = l .before in (
       omega arith,
       filled-turn (l .loop .rows) (l .loop .i) (l .loop .y) (λ j. squared (s .args .f) (s .args .n) j (s .args .a)) (omega (arith, s .pre .1)) (l .loop .inv .2) (l .loop .inv .1),
-      next (s .args .f) (s .args .n) (s .pre .2) (l .loop .i) (s .args .a) (l .loop .y) (c .square .result) (l .loop .inv .2) (c .square .ensures),
+      squared-turn (s .args .f) (s .args .n) (s .pre .2) (l .loop .i) (s .args .a) (l .loop .y) (c .square .result) (l .loop .inv .2) (c .square .ensures),
     )
 
 returns : tie.Need-returns Inv-loop μ-loop

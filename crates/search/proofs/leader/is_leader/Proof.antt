@@ -1,13 +1,13 @@
 -- `search::leader::is_leader` meets its contract. The invariant: y is the conjugate c_i, and none of c_0 to c_i is smaller than a.
 -- The measure is what is left of n. Assumes nothing.
-use mathlib.Core.Path.{_≡_, refl, sym}
+use mathlib.Core.Path.{_≡_, sym}
 use mathlib.Core.Logic.{⊎-elim}
 use Prim.Native.Nat.{ℕ, _+_, _-_, _≤_, _<_}
 use native.Mathlib.Nat.{le-refl}
 use native.Mathlib.Omega.{arith}
 use Rattle.gf2.specs.Numbers.{order}
 use Rattle.field.specs.Field.{squared}
-use Rattle.field.specs.Frobenius.{squared-lt, squared-turn}
+use Rattle.field.specs.Frobenius.{squared-start, squared-lt, squared-turn}
 use Rattle.search.specs.Search.{leader}
 use Rattle.search.specs.Leaders.{leader-means, not-leader}
 use Rattle.search.proofs.leader.is_leader.Statement.{statement}
@@ -19,9 +19,8 @@ Inv-loop squares f n a y₀ i₀ y i = (i < n) × (y ≡ squared f n i a) × ((j
 abbrev μ-loop : tie.MeasureT-loop
 μ-loop squares f n a y₀ i₀ y i = n - i
 
-start : (f n a : ℕ) → (a ≡ squared f n 0 a) × ((j : ℕ) → j ≤ 0 → a ≤ squared f n j a)
-unfolding squared
-start f n a = (refl, λ j h. let e : j ≡ 0 = omega arith in rw e (le-refl a))
+start : (f n a j : ℕ) → j ≤ 0 → a ≤ squared f n j a
+start f n a j h = let e : j ≡ 0 = omega arith in rw (e, ← squared-start f n a) (le-refl a)
 
 passed : (f n i a z : ℕ) → z ≡ squared f n (i + 1) a → a ≤ z → ((j : ℕ) → j ≤ i → a ≤ squared f n j a) → (j : ℕ) → j ≤ i + 1 → a ≤ squared f n j a
 passed f n i a z e h all j l =
@@ -29,8 +28,7 @@ passed f n i a z e h all j l =
 
 loop-holds : tie.Need-loop-holds Inv-loop μ-loop
 loop-holds c =
-    let t = start (c .args .f) (c .args .n) (c .args .a) in
-    (omega (arith, c .pre .1), t .0, t .1)
+    (omega (arith, c .pre .1), squared-start (c .args .f) (c .args .n) (c .args .a), start (c .args .f) (c .args .n) (c .args .a))
 
 add-if1 : tie.Need-add-if1 Inv-loop μ-loop
 add-if1 c = omega (arith, c .before .pre .2)

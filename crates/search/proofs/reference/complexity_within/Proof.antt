@@ -23,15 +23,15 @@ abbrev μ-loop : tie.MeasureT-loop
 μ-loop squares sums uppers f n b y r bound ys rs count₀ c₀ i₀ count c i = n / 2 - i
 
 multiples-requires : tie.Need-multiples-requires Inv-loop μ-loop
-multiples-requires c κs = (c .pre .0 .most, c .pre .0 .is-degree, c .pre .3)
+multiples-requires c κs = (c .pre .0 .reference .most, c .pre .0 .reference .is-degree, c .pre .1)
 
 turn-modulus-requires : tie.Need-turn-modulus-requires Inv-loop μ-loop
-turn-modulus-requires c κs = c .before .pre .0 .most
+turn-modulus-requires c κs = c .before .pre .0 .reference .most
 
 multiples-requires-2 : tie.Need-multiples-requires-2 Inv-loop μ-loop
 multiples-requires-2 c κs =
     let s = c .before .before in
-    (s .pre .0 .most, rw (c .turn-modulus .ensures) (turn-degree (s .args .n) (omega (arith, s .pre .0 .two))), s .pre .5)
+    (s .pre .0 .reference .most, rw (c .turn-modulus .ensures) (turn-degree (s .args .n) (omega (arith, s .pre .0 .reference .two))), s .pre .3)
 
 loop-holds : tie.Need-loop-holds Inv-loop μ-loop
 loop-holds c =
@@ -42,24 +42,24 @@ returns : tie.Need-returns Inv-loop μ-loop
 returns c =
     let l = c .before .before in
     let s = l .before .before .before .before in
-    ones-bounded (s .args .f) (s .args .n) (s .args .b) (s .args .sums .now) (s .pre .0) (s .args .y) (s .pre .3) (s .args .r) (s .pre .4)
+    ones-bounded (s .args .f) (s .args .n) (s .args .b) (s .args .sums .now) (s .pre .0 .reference) (s .args .y) (s .pre .1) (s .args .r) (s .pre .2)
     (l .loop .i) (s .args .bound) (l .loop .count) (l .loop .inv .0) (l .loop .inv .3) (c .if1 .taken)
 
 conjugate-lt : (l : tie.At-loop Inv-loop μ-loop) → l .loop .c < 2 ^ l .before .before .before .before .args .n
 conjugate-lt l =
     let s = l .before .before .before .before in
-    rw (l .loop .inv .2) (squared-lt (s .args .f) (s .args .n) (s .pre .0 .is-degree) (l .loop .i) (s .args .y) (s .pre .3))
+    rw (l .loop .inv .2) (squared-lt (s .args .f) (s .args .n) (s .pre .0 .reference .is-degree) (l .loop .i) (s .args .y) (s .pre .1))
 
 square-by-bytes-requires : tie.Need-square-by-bytes-requires Inv-loop μ-loop
 square-by-bytes-requires c κs =
     let l = c .before .before in
     let s = l .before .before .before .before in
-    (s .pre .2, s .pre .0 .most, s .pre .0 .is-degree, conjugate-lt l)
+    (s .pre .0 .of-squares, s .pre .0 .reference .most, s .pre .0 .reference .is-degree, conjugate-lt l)
 
 add-i : tie.Need-add-i Inv-loop μ-loop
 add-i c =
     let i = c .before .before in
-    omega (arith, i .loop-test .taken, i .before .before .before .before .before .pre .0 .most)
+    omega (arith, i .loop-test .taken, i .before .before .before .before .before .pre .0 .reference .most)
 
 row-through-requires : tie.Need-row-through-requires Inv-loop μ-loop
 row-through-requires c κs =
@@ -68,9 +68,9 @@ row-through-requires c κs =
     let m = l .before in
     let t = m .before in
     let s = t .before .before in (
-      s .pre .0,
-      s .pre .1,
-      rw (q .square-by-bytes .ensures) (mulMod-lt (s .args .f) (s .args .n) (s .pre .0 .is-degree) (l .loop .c) (l .loop .c)),
+      s .pre .0 .reference,
+      s .pre .0 .of-uppers,
+      rw (q .square-by-bytes .ensures) (mulMod-lt (s .args .f) (s .args .n) (s .pre .0 .reference .is-degree) (l .loop .c) (l .loop .c)),
       t .before .multiples .ensures,
       m .multiples2 .ensures ∙ ap (λ (g : ℕ). multiplesOf g (s .args .n) (s .args .r)) (t .turn-modulus .ensures),
     )
@@ -80,12 +80,12 @@ both-requires c κs =
     let i = c .before .before .before .before .before in
     let s = i .before .before .before .before .before in
     let h : Fits w64 (c .row-through .result) = search needs in
-    (omega (arith, i .loop-test .taken, s .pre .0 .most), ones-le 64 (c .row-through .result) (h .fits))
+    (omega (arith, i .loop-test .taken, s .pre .0 .reference .most), ones-le 64 (c .row-through .result) (h .fits))
 
 add-count : tie.Need-add-count Inv-loop μ-loop
 add-count c =
     let i = c .before .before .before .before .before .before in
-    omega (arith, i .loop-test .taken, i .before .before .before .before .before .pre .0 .most, i .before .loop .inv .1, c .both .ensures .1)
+    omega (arith, i .loop-test .taken, i .before .before .before .before .before .pre .0 .reference .most, i .before .loop .inv .1, c .both .ensures .1)
 
 loop-less : tie.Need-loop-less Inv-loop μ-loop
 loop-less c = omega arith
@@ -97,11 +97,11 @@ loop-again c =
     let i = q .before .before in
     let l = i .before in
     let s = l .before .before .before .before in
-    let e = squared-turn (s .args .f) (s .args .n) (s .pre .0 .is-degree) (l .loop .i) (s .args .y) (l .loop .c) (q .square-by-bytes .result) (l .loop .inv .2) (q .square-by-bytes .ensures) in (
+    let e = squared-turn (s .args .f) (s .args .n) (s .pre .0 .reference .is-degree) (l .loop .i) (s .args .y) (l .loop .c) (q .square-by-bytes .result) (l .loop .inv .2) (q .square-by-bytes .ensures) in (
       omega (arith, i .loop-test .taken),
       omega (arith, l .loop .inv .1, c .both .ensures .1),
       e,
-      ones-turn (s .args .f) (s .args .n) (s .args .b) (s .args .sums .now) (s .pre .0) (s .args .y) (s .pre .3) (s .args .r) (s .pre .4)
+      ones-turn (s .args .f) (s .args .n) (s .args .b) (s .args .sums .now) (s .pre .0 .reference) (s .args .y) (s .pre .1) (s .args .r) (s .pre .2)
           (l .loop .i) (q .square-by-bytes .result) (t .row-through .result) (c .both .result) (l .loop .count)
           (i .loop-test .taken) e (t .row-through .ensures) (c .both .ensures .0) (l .loop .inv .3),
     )
@@ -112,7 +112,7 @@ returns-2 c =
     let s = l .before .before .before .before in
     ap (min (s .args .bound))
     (l .loop .inv .3
-    ∙ ones-whole (s .args .f) (s .args .n) (s .args .b) (s .args .sums .now) (s .pre .0) (s .args .y) (s .pre .3) (s .args .r) (s .pre .4)
+    ∙ ones-whole (s .args .f) (s .args .n) (s .args .b) (s .args .sums .now) (s .pre .0 .reference) (s .args .y) (s .pre .1) (s .args .r) (s .pre .2)
     (l .loop .i) (l .loop .inv .0) (c .loop-test .left))
 
 pub complexity-within-spec : {M : Type 1} → statement M

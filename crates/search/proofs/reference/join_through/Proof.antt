@@ -12,10 +12,10 @@ sum-by-bytes-requires c κs = search needs
 unit-of-requires : tie.Need-unit-of-requires
 unit-of-requires c κs =
     let s = c .before in
-    let ref = s .pre .2 in (
+    let ref = s .pre .1 .reference in (
       ref .two,
       ref .most,
-      rw (c .sum-by-bytes .ensures ∙ picked-comb (s .args .f) (s .args .n) (s .args .b) (s .args .sums .now) ref (s .args .y) (s .pre .4))
+      rw (c .sum-by-bytes .ensures ∙ picked-comb (s .args .f) (s .args .n) (s .args .b) (s .args .sums .now) ref (s .args .y) (s .pre .2))
           (coordinates-lt (s .args .f) (s .args .n) (s .args .b) (s .args .sums .now) ref (s .args .y)),
     )
 
@@ -38,9 +38,9 @@ complexity-within-requires c κs =
     let q = u .before in
     let s = q .before in
     let w =
-    witness-inverse (s .args .f) (s .args .n) (s .args .b) (s .args .sums .now) (s .pre .2) (s .args .y) (s .pre .4)
+    witness-inverse (s .args .f) (s .args .n) (s .args .b) (s .args .sums .now) (s .pre .1 .reference) (s .args .y) (s .pre .2)
     (q .sum-by-bytes .result) (q .sum-by-bytes .ensures) (u .unit-of .result) (u .unit-of .ensures) _ (k .witness .given .1) in
-    (s .pre .2, s .pre .3, s .pre .1, s .pre .4, w .1, w .0)
+    (s .pre .1, s .pre .2, w .1, w .0)
 
 with-next-requires : tie.Need-with-next-requires
 with-next-requires c κs = search needs
@@ -53,8 +53,8 @@ returns-2 c =
     let u = c .before .before in
     let q = u .before in
     let s = q .before in
-    found-stays (s .args .f) (s .args .n) (s .args .found) (s .args .y) (s .pre .6) (s .pre .5)
-    (witness-vanishes (s .args .f) (s .args .n) (s .args .b) (s .args .sums .now) (s .pre .2) (s .args .y) (s .pre .4)
+    found-stays (s .args .f) (s .args .n) (s .args .found) (s .args .y) (s .pre .4) (s .pre .3)
+    (witness-vanishes (s .args .f) (s .args .n) (s .args .b) (s .args .sums .now) (s .pre .1 .reference) (s .args .y) (s .pre .2)
     (q .sum-by-bytes .result) (q .sum-by-bytes .ensures) (u .unit-of .result) (u .unit-of .ensures) _ (c .enum-told2 .given .1))
 
 returns-3 : tie.Need-returns-3
@@ -64,9 +64,9 @@ returns-3 c =
     let u = k .before .before in
     let q = u .before in
     let s = q .before in
-    found-next (s .args .f) (s .args .n) (s .args .found) (s .args .y) (s .pre .6) (s .pre .5)
-    (through-normal (s .args .f) (s .args .n) (s .args .b) (s .args .sums .now) (s .pre .2) (s .args .y) (s .pre .4) _
-    (witness-inverse (s .args .f) (s .args .n) (s .args .b) (s .args .sums .now) (s .pre .2) (s .args .y) (s .pre .4)
+    found-next (s .args .f) (s .args .n) (s .args .found) (s .args .y) (s .pre .4) (s .pre .3)
+    (through-normal (s .args .f) (s .args .n) (s .args .b) (s .args .sums .now) (s .pre .1 .reference) (s .args .y) (s .pre .2) _
+    (witness-inverse (s .args .f) (s .args .n) (s .args .b) (s .args .sums .now) (s .pre .1 .reference) (s .args .y) (s .pre .2)
     (q .sum-by-bytes .result) (q .sum-by-bytes .ensures) (u .unit-of .result) (u .unit-of .ensures) _ (k .witness .given .1) .1))
     (w .complexity-within .result) (w .complexity-within .ensures) (c .with-next .result) (c .with-next .ensures)
 

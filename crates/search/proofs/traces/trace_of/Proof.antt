@@ -7,7 +7,7 @@ use native.Mathlib.Omega.{arith}
 use lib.Bits.{bitXor}
 use Rattle.gf2.specs.Poly.{_⊕_}
 use Rattle.field.specs.Field.{squared, traceTo, trace}
-use Rattle.field.specs.Frobenius.{squared-lt, squared-turn}
+use Rattle.field.specs.Frobenius.{squared-start, squared-lt, squared-turn}
 use Rattle.search.proofs.traces.trace_of.Statement.{statement}
 use Rattle.search.proofs.traces.trace_of.Tie as tie
 
@@ -17,9 +17,9 @@ Inv-loop squares f n a sum₀ y₀ i₀ sum y i = (i ≤ n) × (sum ≡ traceTo 
 abbrev μ-loop : tie.MeasureT-loop
 μ-loop squares f n a sum₀ y₀ i₀ sum y i = n - i
 
-start : (f n a : ℕ) → (0 ≡ traceTo f n 0 a) × (a ≡ squared f n 0 a)
-unfolding traceTo squared
-start f n a = (refl, refl)
+start : (f n a : ℕ) → 0 ≡ traceTo f n 0 a
+unfolding traceTo
+start f n a = refl
 
 turn : (f n i a sum y : ℕ) → sum ≡ traceTo f n i a → y ≡ squared f n i a → bitXor sum y ≡ traceTo f n (i + 1) a
 unfolding traceTo _⊕_
@@ -31,8 +31,7 @@ done f n i a sum p q e = let s : i ≡ n = omega arith in e ∙ ap (λ (x : ℕ)
 
 loop-holds : tie.Need-loop-holds Inv-loop μ-loop
 loop-holds c =
-    let t = start (c .args .f) (c .args .n) (c .args .a) in
-    (omega arith, t .0, t .1)
+    (omega arith, start (c .args .f) (c .args .n) (c .args .a), squared-start (c .args .f) (c .args .n) (c .args .a))
 
 square-by-bytes-requires : tie.Need-square-by-bytes-requires Inv-loop μ-loop
 square-by-bytes-requires c κs =

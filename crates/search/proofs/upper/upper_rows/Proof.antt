@@ -1,4 +1,4 @@
--- `search::upper::upper_rows` meets its contract. The invariant: the rows below i are filled, and y is x ^ (n + i). The measure is what is left
+-- `search::upper::upper_rows` meets its contract. The invariant: the rows below i are filled, and y is x ^ (n + i) modulo f. The measure is what is left
 -- of n. Assumes nothing.
 use mathlib.Core.Path.{_≡_, ap, _∙_}
 use mathlib.Core.List.{List}
@@ -12,7 +12,7 @@ use Rattle.rows.specs.Rows.{comb}
 use Rattle.normal.specs.Normal.{inverseRows}
 use Rattle.normal.specs.Filling.{Filled, filled-start, filled-turn, filled-padded}
 use Rattle.search.specs.Through.{picked-comb}
-use Rattle.search.specs.Upper.{upperRows, top-apart, next-power}
+use Rattle.search.specs.Upper.{upperRows, power-reduced, next-power}
 use Rattle.search.proofs.upper.upper_rows.Statement.{statement}
 use Rattle.search.proofs.upper.upper_rows.Tie as tie
 
@@ -39,7 +39,7 @@ sub-y c = omega (arith, c .power .ensures, c .before .pre .is-degree .low)
 loop-holds : tie.Need-loop-holds Inv-loop μ-loop
 loop-holds c =
     let s = c .before in
-    (omega arith, filled-start (row (s .args .f) (s .args .n) (s .args .b)), top-apart (s .args .f) (s .args .n) (s .pre .is-degree) _ (c .power .ensures))
+    (omega arith, filled-start (row (s .args .f) (s .args .n) (s .args .b)), power-reduced (s .args .f) (s .args .n) (s .pre .is-degree) _ (c .power .ensures))
 
 sum-by-bytes-requires : tie.Need-sum-by-bytes-requires Inv-loop μ-loop
 sum-by-bytes-requires c κs = search needs

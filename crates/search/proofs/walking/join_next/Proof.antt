@@ -21,23 +21,23 @@ passed f n a x e = sym (ap (joined (Found x)) (candidate-none f n a e) ∙ joine
 
 has-trace-requires : tie.Need-has-trace-requires
 has-trace-requires c κs =
-    let ref = c .pre .2 in
-    (c .pre .4, ref .two, ref .is-degree, c .pre .5, ref .returns, c .pre .6)
+    let ref = c .pre .1 .reference in
+    (c .pre .2, ref .two, ref .is-degree, c .pre .3, ref .returns, c .pre .4)
 
 returns : tie.Need-returns
 returns c =
     let t = c .before in
     let s = t .before in
-    let ref = s .pre .2 in
+    let ref = s .pre .1 .reference in
     passed (s .args .f) (s .args .n) (s .args .a) (s .args .found)
-    (no-trace-not-normal (s .args .f) (s .args .n) (ref .is-degree) (ref .two) (s .pre .5) (ref .returns) (s .args .a) (s .pre .6)
+    (no-trace-not-normal (s .args .f) (s .args .n) (ref .is-degree) (ref .two) (s .pre .3) (ref .returns) (s .args .a) (s .pre .4)
     (sym (t .has-trace .ensures) ∙ not-true (t .has-trace .result) (c .if1 .taken)))
 
 is-leader-requires : tie.Need-is-leader-requires
 is-leader-requires c κs =
     let s = c .before .before in
-    let ref = s .pre .2 in
-    (s .pre .1, ref .two, ref .most, ref .is-degree, s .pre .6)
+    let ref = s .pre .1 .reference in
+    (s .pre .1 .of-squares, ref .two, ref .most, ref .is-degree, s .pre .4)
 
 returns-2 : tie.Need-returns-2
 returns-2 c =
@@ -50,15 +50,13 @@ join-through-requires : tie.Need-join-through-requires
 join-through-requires c κs =
     let l = c .before in
     let s = l .before .before .before in
-    let ref = s .pre .2 in (
+    let ref = s .pre .1 .reference in (
       s .pre .0,
       s .pre .1,
-      ref,
-      s .pre .3,
-      s .pre .6,
+      s .pre .4,
       sym (l .is-leader .ensures) ∙ not-false (l .is-leader .result) (c .if2 .left),
-      s .pre .7,
-      omega (arith, s .pre .6, s .pre .8, pow-mono (ref .most)),
+      s .pre .5,
+      omega (arith, s .pre .4, s .pre .6, pow-mono (ref .most)),
     )
 
 returns-3 : tie.Need-returns-3

@@ -110,9 +110,7 @@ walk-on-requires c κs =
     (k .build-basis .result) (k .build-basis .ensures) _ (s .pre .1) (s .pre .2) (s .pre .3) (s .pre .5) (s .pre .7) (t .byte-sums .ensures) in
     let start = started (args .n) (b .first-normal .result) _ (a .alone .result) (a .alone .ensures) in (
       s .pre .0,
-      q .square-sums .ensures,
-      ref,
-      u .upper-sums .ensures,
+      record { reference = ref; of-squares = q .square-sums .ensures; of-uppers = u .upper-sums .ensures },
       m .trace-mask .ensures,
       s .pre .4,
       omega (arith, e .if1 .left),

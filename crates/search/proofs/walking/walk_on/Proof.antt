@@ -31,19 +31,19 @@ done f n next last a x z p q e = let s : a ≡ last + 1 = omega arith in rw s at
 
 loop-holds : tie.Need-loop-holds Inv-loop μ-loop
 loop-holds c =
-    (omega arith, c .pre .6, c .pre .8, c .pre .9, start (c .args .f) (c .args .n) (c .args .next) (c .args .start))
+    (omega arith, c .pre .4, c .pre .6, c .pre .7, start (c .args .f) (c .args .n) (c .args .next) (c .args .start))
 
 join-next-requires : tie.Need-join-next-requires Inv-loop μ-loop
 join-next-requires c κs =
     let l = c .before in
     let s = l .before in
-    (s .pre .0, s .pre .1, s .pre .2, s .pre .3, s .pre .4, s .pre .5, omega (arith, s .pre .7, c .loop-test .taken), l .loop .inv .2, l .loop .inv .3)
+    (s .pre .0, s .pre .1, s .pre .2, s .pre .3, omega (arith, s .pre .5, c .loop-test .taken), l .loop .inv .2, l .loop .inv .3)
 
 add-y : tie.Need-add-y Inv-loop μ-loop
 add-y c =
     let i = c .before in
     let s = i .before .before in
-    omega (arith, s .pre .7, pow-mono (s .pre .2 .most), i .loop-test .taken)
+    omega (arith, s .pre .5, pow-mono (s .pre .1 .reference .most), i .loop-test .taken)
 
 loop-less : tie.Need-loop-less Inv-loop μ-loop
 loop-less c = omega arith

@@ -1,4 +1,4 @@
--- `search::windows::wide_product` meets its contract. The invariant: low and high hold the product of a and what stands below k in b. The
+-- `search::windows::wide_product` meets its contract. The invariant: low and high hold the product modulo f of a and what stands below k in b. The
 -- measure is what is left of n. Assumes nothing.
 use Prim.Native.Nat.{_-_, _%_, _^_}
 use native.Mathlib.Omega.{arith}
