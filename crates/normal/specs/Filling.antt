@@ -1,4 +1,5 @@
--- Matrices inside a computation: padding changes neither rows nor sums of rows, and how a loop fills a matrix row by row.
+-- Matrices inside a computation: padding changes neither rows nor sums of rows; the rows of a linear function (`padded-linear`); and how a
+-- loop fills a matrix row by row.
 --
 --   Filled m i g   the entries of m below i are those of g, and the rest 0
 --
@@ -6,7 +7,7 @@
 use mathlib.Core.Path.{_≡_, sym, ap, _∙_}
 use mathlib.Core.Logic.{⊎-elim}
 use mathlib.Core.List.{List, _++_}
-use Prim.Native.Nat.{ℕ, _+_, _-_, _≤_, _<_}
+use Prim.Native.Nat.{ℕ, _+_, _-_, _^_, _≤_, _<_}
 use native.Mathlib.Nat.{add-sub-of-le}
 use native.Mathlib.Omega.{arith}
 use lib.ListN.{length, getD, set, take, replicate, length-append, length-replicate, length-set, List·getD-append, List·getD-eq-default}
@@ -14,7 +15,8 @@ use lib.Seq.{ext-getD, getD-set-same, getD-set-other, getD-append-add, take-at}
 use Rattle.gf2.specs.Numbers.{order}
 use Rattle.gf2.specs.Limit.{limit}
 use Rattle.rows.specs.Rows.{comb, Matrix, Inverse}
-use Rattle.rows.specs.Sums.{comb-same, zeros-at}
+use Rattle.rows.specs.Linear.{Linear, linear-ext}
+use Rattle.rows.specs.Sums.{comb-same, comb-⊕, comb-power, zeros-at}
 use Rattle.normal.specs.Normal.{listed, padded}
 use Rattle.normal.specs.Coordinates.{listed-at, listed-length}
 
@@ -40,6 +42,14 @@ padded-at rows i =
 
 pub padded-comb : (rows : List ℕ) (v : ℕ) → comb (padded rows) v ≡ comb rows v
 padded-comb rows v = comb-same (padded rows) rows (padded-at rows) v
+
+-- the values of a linear function at the powers of x, as rows, give its value at every element
+pub padded-linear : (g : ℕ → ℕ) → Linear g → (n v : ℕ) → v < 2 ^ n → comb (padded (listed n (λ i. g (2 ^ i)))) v ≡ g v
+padded-linear g lin n v h =
+    let rows : List ℕ = listed n (λ i. g (2 ^ i)) in
+    linear-ext (comb (padded rows)) g (comb-⊕ (padded rows)) lin n
+    (λ i l. comb-power (padded rows) i ∙ padded-at rows i ∙ listed-at n (λ j. g (2 ^ j)) i l)
+    v h
 
 pub padded-take : (rows : List ℕ) (n : ℕ) → length rows ≡ n → take n (padded rows) ≡ rows
 unfolding padded

@@ -44,10 +44,9 @@ module _ (n : ℕ) (pos : 1 ≤ n) where
       let y : ℕ = w - 2 ^ (n - 1) in
       let x : ℕ = w * 2 - 2 ^ n in
       let t : x ≡ y * 2 = omega (arith, half-power n pos) in
-      let apart : (z : ℕ) → z < 2 ^ n → 2 ^ n + z ≡ 2 ^ n ⊕ z = λ z hz. sym (⊕-top n z hz) in
       let s : w * 2 ≡ 2 ^ n + x = omega arith in
-      ap (λ (z : ℕ). z ⊕ (2 ^ n + 1)) (s ∙ apart x (omega arith) ∙ ⊕-comm (2 ^ n) x)
-      ∙ ap (λ (z : ℕ). x ⊕ 2 ^ n ⊕ z) (apart 1 (one-lt n pos))
+      ap (λ (z : ℕ). z ⊕ (2 ^ n + 1)) (s ∙ sym (⊕-top n x (omega arith)) ∙ ⊕-comm (2 ^ n) x)
+      ∙ ap (λ (z : ℕ). x ⊕ 2 ^ n ⊕ z) (sym (⊕-top n 1 (one-lt n pos)))
       ∙ ⊕-middle x (2 ^ n) 1
       ∙ rw t (⊕-digit y 1 (omega arith))
 

@@ -3,8 +3,7 @@
 --   FirstFrom f n first last r   r is the first normal leader from first to last, or the number after last where there is none
 --   aloneBy n b c                the found record of the one normal leader b, of complexity c
 --
--- In order: the first part, turn by turn, and what it leaves of the range; the second part, turn by turn, with the bounds that its turns need;
--- the rows of a built basis.
+-- In order: the first part, turn by turn, and what it leaves of the range; the second part, turn by turn, with the bounds that its turns need.
 -- Assumes nothing.
 use mathlib.Core.Path.{_≡_, sym, ap, ap₂, _∙_}
 use mathlib.Core.Logic.{⊎-elim}
@@ -12,10 +11,7 @@ use mathlib.Core.Bool.{true, false}
 use Prim.Native.Nat.{ℕ, suc, _+_, _-_, _≤_, _<_}
 use native.Mathlib.Omega.{arith}
 use Rattle.gf2.specs.Bounded.{bool-cases}
-use Rattle.normal.specs.Normal.{normal, inverseRows, padded}
-use Rattle.normal.specs.Basis.{builtOf}
 use Rattle.normal.specs.Grades.{gradeOf}
-use Rattle.normal.specs.declared.basis.Built.{Built}
 use Rattle.search.specs.Search.{normalLeader, better, alone, joined, candidateOf, walked, ranged}
 use Rattle.search.specs.Joined.{before, better-right, better-left, nothing-joined, joined-assoc}
 use Rattle.search.specs.Walks.{candidate-is, candidate-none, walked-none, walked-next, walked-cut}
@@ -100,10 +96,3 @@ module _ (f n next a : ℕ) (h : next ≤ a) (start x z : Best) (ez : Found z �
       let q : z ≡ x = cc in
       rw q (omega arith, omega arith))
       (bool-cases (normalLeader f n a))
-
--- ---- the rows of a built basis
-
-module _ (f n y : ℕ) (built : Built) (e : built ≡ builtOf f n y) (t : normal f n y ≡ true) where
-  pub built-inverse : built .basis .inverse ≡ padded (inverseRows f n y)
-  unfolding builtOf
-  built-inverse = ap (λ (x : Built). x .basis .inverse) e ∙ rw t

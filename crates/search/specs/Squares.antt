@@ -12,27 +12,15 @@ use lib.Pow.{pow-mono}
 use Rattle.gf2.specs.Poly.{mulMod, Degree}
 use Rattle.gf2.specs.Limit.{limit}
 use Rattle.field.specs.Ring.{mulMod-square-⊕}
-use Rattle.rows.specs.Rows.{comb}
-use Rattle.rows.specs.Linear.{linear-ext}
-use Rattle.rows.specs.Sums.{comb-⊕, comb-power}
 use Rattle.rows.specs.ByteSums.{bytes, byteSums, pickedBytes, bytes-pick}
 use Rattle.normal.specs.Normal.{listed, padded}
-use Rattle.normal.specs.Coordinates.{listed-at}
-use Rattle.normal.specs.Filling.{padded-at}
+use Rattle.normal.specs.Filling.{padded-linear}
 
 unfoldable pub squareRows : (f n : ℕ) → List ℕ
 squareRows f n = padded (listed n (λ i. mulMod f n (2 ^ i) (2 ^ i)))
 
 module _ (f n : ℕ) (deg : Degree f n) (y : ℕ) (h : y < 2 ^ n) where
-  -- bits pick the square
-  pub squares-sum : comb (squareRows f n) y ≡ mulMod f n y y
-  unfolding squareRows
-  squares-sum =
-      let rows : List ℕ = listed n (λ i. mulMod f n (2 ^ i) (2 ^ i)) in
-      linear-ext (comb (padded rows)) (λ v. mulMod f n v v) (comb-⊕ (padded rows)) (mulMod-square-⊕ f n deg) n
-      (λ i l. comb-power (padded rows) i ∙ padded-at rows i ∙ listed-at n (λ j. mulMod f n (2 ^ j) (2 ^ j)) i l)
-      y h
-
-  -- bytes pick the square
   pub squares-picked : n ≤ limit → pickedBytes bytes (byteSums bytes (squareRows f n)) y ≡ mulMod f n y y
-  squares-picked small = bytes-pick bytes (squareRows f n) y (omega (arith, pow-mono small)) ∙ squares-sum
+  unfolding squareRows
+  squares-picked small =
+      bytes-pick bytes (squareRows f n) y (omega (arith, pow-mono small)) ∙ padded-linear (λ v. mulMod f n v v) (mulMod-square-⊕ f n deg) n y h

@@ -198,3 +198,7 @@ module _ (f n y : ℕ) (built : Built) (e : built ≡ builtOf f n y) where
   built-complexity t c ec =
       let table : built .basis .table ≡ padded (tableRows f n y) = ap (λ (x : Built). x .basis .table) e ∙ rw t in
       ec ∙ ap (λ (rows : List ℕ). complexity (take n rows)) table ∙ ap complexity (padded-take (tableRows f n y) n (tableRows-length f n y))
+
+  pub built-inverse : normal f n y ≡ true → built .basis .inverse ≡ padded (inverseRows f n y)
+  unfolding builtOf
+  built-inverse t = ap (λ (x : Built). x .basis .inverse) e ∙ rw t

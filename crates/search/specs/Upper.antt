@@ -4,7 +4,7 @@
 --   upperRows f n b                      row i: the coordinates of x ^ (n + i) in the basis of b; "entries from n upward are zero"
 --   Tables f n b squares sums uppers     what a walk has at hand: the byte sums of squares, and those of coordinates in the basis of b
 --
--- In order: what bits and bytes pick; the coordinates of a product that is not reduced; the rows one by one. Assumes nothing.
+-- In order: what bytes pick; the coordinates of a product that is not reduced; the rows one by one. Assumes nothing.
 use mathlib.Core.Path.{_≡_, sym, ap, ap₂, _∙_}
 use mathlib.Core.List.{List}
 use Prim.Native.Nat.{ℕ, _+_, _-_, _*_, _^_, _≤_, _<_}
@@ -20,12 +20,11 @@ use Rattle.gf2.specs.Product.{product-one-l}
 use Rattle.gf2.specs.Remainder.{rem-small, rem-⊕, rem-unique}
 use Rattle.field.specs.Ring.{mulMod-comm, mulMod-x}
 use Rattle.rows.specs.Rows.{comb}
-use Rattle.rows.specs.Linear.{linear-ext, linear-shift, linear-after}
-use Rattle.rows.specs.Sums.{comb-⊕, comb-power}
+use Rattle.rows.specs.Linear.{linear-shift, linear-after}
+use Rattle.rows.specs.Sums.{comb-⊕}
 use Rattle.rows.specs.ByteSums.{bytes, byteSums, pickedBytes, bytes-pick}
 use Rattle.normal.specs.Normal.{inverseRows, listed, padded}
-use Rattle.normal.specs.Coordinates.{listed-at}
-use Rattle.normal.specs.Filling.{padded-at}
+use Rattle.normal.specs.Filling.{padded-linear}
 use Rattle.search.specs.Squares.{squareRows}
 use Rattle.search.specs.Through.{Reference, picked-comb}
 use Rattle.search.specs.Windows.{Unreduced}
@@ -38,25 +37,17 @@ pub record Tables (f n b : ℕ) (squares sums uppers : List ℕ) : Type 0 where
   pub of-squares : squares ≡ byteSums bytes (squareRows f n)
   pub of-uppers : uppers ≡ byteSums bytes (upperRows f n b)
 
--- ---- what bits and bytes pick
+-- ---- what bytes pick
 
 module _ (f n : ℕ) (deg : Degree f n) (b : ℕ) (h : ℕ) (l : h < 2 ^ n) where
-  -- bits pick the coordinates
-  upper-sum : comb (upperRows f n b) h ≡ comb (inverseRows f n b) (rem f n (h * 2 ^ n))
+  upper-picked : n ≤ limit → pickedBytes bytes (byteSums bytes (upperRows f n b)) h ≡ comb (inverseRows f n b) (rem f n (h * 2 ^ n))
   unfolding upperRows
-  upper-sum =
-      let g : ℕ → ℕ = λ v. comb (inverseRows f n b) (rem f n (v * 2 ^ n)) in
-      let rows : List ℕ = listed n (λ i. g (2 ^ i)) in
-      linear-ext (comb (padded rows)) g (comb-⊕ (padded rows))
+  upper-picked small =
+      bytes-pick bytes (upperRows f n b) h (omega (arith, pow-mono small))
+      ∙ padded-linear (λ v. comb (inverseRows f n b) (rem f n (v * 2 ^ n)))
       (linear-after (comb (inverseRows f n b)) (λ v. rem f n (v * 2 ^ n)) (comb-⊕ (inverseRows f n b))
       (linear-after (rem f n) (λ v. v * 2 ^ n) (rem-⊕ f n deg) (linear-shift n)))
-      n
-      (λ i k. comb-power (padded rows) i ∙ padded-at rows i ∙ listed-at n (λ j. g (2 ^ j)) i k)
-      h l
-
-  -- bytes pick them
-  upper-picked : n ≤ limit → pickedBytes bytes (byteSums bytes (upperRows f n b)) h ≡ comb (inverseRows f n b) (rem f n (h * 2 ^ n))
-  upper-picked small = bytes-pick bytes (upperRows f n b) h (omega (arith, pow-mono small)) ∙ upper-sum
+      n h l
 
 -- ---- a product that is not reduced
 

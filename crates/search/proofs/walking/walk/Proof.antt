@@ -17,8 +17,8 @@ use Rattle.normal.specs.Basis.{builtOf}
 use Rattle.normal.specs.declared.basis.Built.{Built}
 use Rattle.search.specs.Search.{joined, walked, ranged}
 use Rattle.search.specs.Walks.{leader-is-normal}
-use Rattle.search.specs.Through.{Reference, built-complexity}
-use Rattle.search.specs.Begun.{FirstFrom, aloneBy, begun-nothing, begun-found, built-inverse}
+use Rattle.search.specs.Through.{Reference, built-complexity, built-inverse}
+use Rattle.search.specs.Begun.{FirstFrom, aloneBy, begun-nothing, begun-found}
 use Rattle.search.specs.declared.answer.Best.{Best}
 use Rattle.search.specs.declared.answer.Search.the-variants.{Found}
 use Rattle.search.proofs.walking.walk.Statement.{statement}
