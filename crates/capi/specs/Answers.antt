@@ -8,7 +8,7 @@
 -- That a refusal's other values are zero stands in the reports (`reportOf`, `issueOf`, `refusedReport`).
 -- Assumes nothing.
 use Prim.Native.Nat.{ℕ}
-use Rattle.field.specs.Answers.{Report}
+use Rattle.refusals.specs.Answers.{Report}
 use Rattle.sheet.specs.Answers.{Issue}
 use Rattle.search.specs.Answers.{SearchReport}
 use Rattle.search.specs.declared.answer.Search.{Search}

@@ -1,12 +1,12 @@
 // What the calls hand out: the numbers of document 01 for each case of an answer, in structs that C knows.
 ghost use mathlib.Core.Path.{_≡_};
-ghost use Rattle.field.specs.Answers.{valueReport, checkedReport};
+ghost use Rattle.refusals.specs.Answers.{valueReport, checkedReport};
 ghost use Rattle.sheet.specs.Answers.{issuedReport};
 ghost use Rattle.search.specs.Answers.{refusedReport, caseReport};
 ghost use Rattle.capi.specs.Answers.{deskValue, deskIssued, deskFound, foundFlag};
-use field::Checked;
-use field::Value;
 use normal::grade_number;
+use refusals::Checked;
+use refusals::Value;
 use search::Search;
 use sheet::Issued;
 

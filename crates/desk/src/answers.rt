@@ -1,10 +1,10 @@
 // What the calls answer, written for a reader: values and searches to standard output, refusals to standard error.
-use field::Checked;
-use field::Refusal;
-use field::Value;
 use libc::STDERR_FILENO;
 use libc::STDOUT_FILENO;
 use normal::grade_number;
+use refusals::Checked;
+use refusals::Refusal;
+use refusals::Value;
 use search::Search;
 
 fn put(text: &[u8]) {

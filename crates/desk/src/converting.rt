@@ -8,7 +8,7 @@ use super::input::INPUT_ROOM;
 use super::input::number_at;
 use super::input::open_sheet;
 use super::input::polynomial_at;
-use field::Checked;
+use refusals::Checked;
 use sheet::LIST_LIMIT;
 use words::Word;
 

@@ -5,13 +5,15 @@
 --   divided f n       refusal 2; `divided-means` (in `Divided`) says it for every d
 --   strays f n        refusal 3
 --   Accepted f        none of them; `check-accepts` (in `Checked`): the check is done exactly for these
+--   InRange f n       the degree of f is n, 2 to the limit: what is left where refusal 1 is not given
+--   Element f n a     the same, and a is an element: what is left where refusal 4 is not given either
 --
 -- Assumes nothing.
 use mathlib.Core.Path.{_≡_}
 use mathlib.Core.Bool.{Bool, false, not, _&&_, _||_}
-use Prim.Native.Nat.{ℕ, _^_}
+use Prim.Native.Nat.{ℕ, _^_, _≤_, _<_}
 use lib.Dec.{ltb, leb, eqb}
-use Rattle.gf2.specs.Poly.{degree, divides}
+use Rattle.gf2.specs.Poly.{degree, Degree, divides}
 use Rattle.gf2.specs.Bounded.{some}
 use Rattle.gf2.specs.Limit.{limit}
 use Rattle.field.specs.Field.{squared}
@@ -32,3 +34,13 @@ pub record Accepted (f : ℕ) : Type 0 where
   pub in-range : degreeOutside f ≡ false
   pub undivided : divided f (degree f) ≡ false
   pub returns : strays f (degree f) ≡ false
+
+pub record InRange (f n : ℕ) : Type 0 where
+  pub two : 2 ≤ n
+  pub most : n ≤ limit
+  pub is-degree : Degree f n
+
+-- "An element of the field of degree n is a number below 2^n."
+pub record Element (f n a : ℕ) : Type 0 where
+  pub in-range : InRange f n
+  pub small : a < 2 ^ n

@@ -1,47 +1,51 @@
 -- What the check answers, and what it means of f: done exactly if f is accepted. An accepted f has a degree from 2 to the limit, is
 -- irreducible, and has every element return after n squarings.
 -- Assumes nothing.
-use mathlib.Core.Path.{_≡_, refl, ap, _∙_}
+use mathlib.Core.Path.{_≡_, refl, sym, _∙_}
 use mathlib.Core.Logic.{_↔_}
-use mathlib.Core.Bool.{Bool, true, false, not}
+use mathlib.Core.Bool.{false}
 use mathlib.Core.List.{[], _∷_}
 use Prim.Native.Nat.{ℕ, _^_, _<_}
 use lib.Dec.{eqb}
-use borrow.Author.Tests.{eqb-true}
+use borrow.Author.Tests.{eqb-true, not-false}
 use Rattle.gf2.specs.Poly.{degree}
-use Rattle.gf2.specs.Bounded.{not-both}
 use Rattle.field.specs.Field.{squared, Irreducible}
-use Rattle.field.specs.Accepted.{strays, Accepted}
-use Rattle.field.specs.Refusals.{degreeRule, divisorRule, returnRule, fieldOrder, firstOf, checkOrder}
-use Rattle.field.specs.Answers.{checkedOf, checkAnswer}
+use Rattle.refusals.specs.Verdicts.{clear, firstOf}
+use Rattle.refusals.specs.Orders.{first-passes, first-clear}
+use Rattle.refusals.specs.Answered.{judged-clear, answer-clear}
+use Rattle.field.specs.Accepted.{degreeOutside, strays, Accepted, InRange}
+use Rattle.field.specs.Refusals.{degreeRule, divisorRule, returnRule, fieldOrder, checkOrder}
+use Rattle.field.specs.Answers.{checkAnswer}
+use Rattle.field.specs.Orders.{in-range, field-passed}
 use Rattle.field.specs.Frobenius.{squared-fixes}
 use Rattle.field.specs.Divided.{undivided-irreducible}
-use Rattle.field.specs.Orders.{first-passes, first-none, first-clear, checked-clear, InRange, in-range}
-use Rattle.field.specs.declared.answer.Checked.the-variants as checked
+use Rattle.refusals.specs.declared.answer.Checked.the-variants as checked
+
+-- ---- the order of 2 and 3
+
+-- degree in range: nothing of 2 and 3 applies exactly if f is accepted
+pub field-accepts : (f : ℕ) → degreeOutside f ≡ false → (firstOf (fieldOrder f) ≡ clear) ↔ Accepted f
+field-accepts f inside = (
+  λ e.
+      let two = first-clear (divisorRule f) (returnRule f ∷ []) e in
+      let three = first-clear (returnRule f) [] (two .1) in
+      record { in-range = inside; undivided = two .0; returns = three .0 },
+  λ s. field-passed f (degree f) refl (s .undivided) (s .returns),
+)
 
 -- ---- the answer
 
 pub check-accepts : (f : ℕ) → (checkAnswer f ≡ checked.Done) ↔ Accepted f
-unfolding checkAnswer checkedOf
+unfolding checkAnswer
 check-accepts f = (
   λ e.
-      let one = first-clear (degreeRule f) (fieldOrder f) (checked-clear (firstOf (checkOrder f)) e) in
-      let two = first-clear (divisorRule f) (returnRule f ∷ []) (one .1) in
-      let three = first-clear (returnRule f) [] (two .1) in
-      record { in-range = one .0; undivided = two .0; returns = three .0 },
+      let one = first-clear (degreeRule f) (fieldOrder f) (judged-clear (firstOf (checkOrder f)) refl e) in
+      field-accepts f (one .0) .0 (one .1),
   λ s.
-      ap checkedOf
-      (first-passes (degreeRule f) (fieldOrder f) (s .in-range)
-      ∙ first-passes (divisorRule f) (returnRule f ∷ []) (s .undivided)
-      ∙ first-passes (returnRule f) [] (s .returns)
-      ∙ first-none),
+      sym (answer-clear checked.Refused checked.Done (first-passes (degreeRule f) (fieldOrder f) (s .in-range) ∙ field-accepts f (s .in-range) .1 s)),
 )
 
 -- ---- what an accepted f is
-
-not-false : (b : Bool) → not b ≡ false → b ≡ true
-not-false true e = refl
-not-false false e = absurd (not-both true refl e)
 
 module _ (f : ℕ) (s : Accepted f) where
   pub accepted-degree : InRange f (degree f)

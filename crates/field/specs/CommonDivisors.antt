@@ -10,7 +10,7 @@ use native.Mathlib.Omega.{arith}
 use lib.Pow.{pow-pos}
 use Rattle.gf2.specs.Poly.{_⊕_, product, degree, rem, mulMod, Degree, Divides}
 use Rattle.gf2.specs.Numbers.{order, zero-one-more}
-use Rattle.gf2.specs.Bounded.{bool-cases}
+use Rattle.gf2.specs.Truth.{bool-cases}
 use Rattle.gf2.specs.Sum.{zero-⊕, ⊕-self, ⊕-lt, ⊕-eq-zero}
 use Rattle.gf2.specs.Product.{product-one-l}
 use Rattle.gf2.specs.Degrees.{degree-is}

@@ -11,7 +11,8 @@ use lib.Pow.{pow-pos, pow-mono}
 use borrow.Author.Tests.{leb-true, le-leb}
 use Rattle.gf2.specs.Poly.{product, degree, Degree, Divides, divides}
 use Rattle.gf2.specs.Numbers.{order, zero-one-more}
-use Rattle.gf2.specs.Bounded.{some-means, first, Found, first-is, not-both, not-true-false}
+use Rattle.gf2.specs.Truth.{not-both, not-true-false, and-parts}
+use Rattle.gf2.specs.Bounded.{some-means, first, Found, first-is}
 use Rattle.gf2.specs.Product.{product-zero-l, product-zero-r, product-one-l, product-comm}
 use Rattle.gf2.specs.Degrees.{degree-is, degree-mono, degree-unique, degree-pos, degree-lt}
 use Rattle.gf2.specs.Divisors.{divides-trans, divides-means, Factors, factors, factor-lt}
@@ -24,13 +25,9 @@ pub record Proper (f n d : ℕ) : Type 0 where
   pub below : d < 2 ^ n
   pub divides : Divides d f
 
-and-cases : (a b : Bool) → (a && b) ≡ true → (a ≡ true) × (b ≡ true)
-and-cases true b e = (refl, e)
-and-cases false b e = absurd (not-both false e refl)
-
 proper-test : (f d : ℕ) → (leb 2 d && divides d f) ≡ true → (2 ≤ d) × Divides d f
 proper-test f d e =
-    let s = and-cases (leb 2 d) (divides d f) e in
+    let s = and-parts (leb 2 d) (divides d f) e in
     let two : 2 ≤ d = leb-true 2 d (s .0) in
     (two, divides-means d f (omega arith) .0 (s .1))
 

@@ -1,36 +1,19 @@
--- The refusal table of document 01, and how a call's order picks from it.
+-- The refusal table of document 01: the rows that speak of a polynomial and of elements, and the orders of the four field calls.
+-- Definitions alone.
 --
---   Rule              a row of the table as it stands in a call: number, place, and whether its condition holds
---   firstOf order     "Each condition is tested only if none earlier in the call's order applied."
---   ..Rule            the rows 1 to 4
---   ..Order           the orders of the four field calls
+--   ..Rule         the rows 1 to 4
+--   ..Order        the orders of the calls
+--   operandOrder   their first part, 1 and 4, which building and searching begin with too
+--   fieldOrder     2 and 3, which every call that needs an accepted f tests together
 --
 -- Assumes nothing.
-use mathlib.Core.Bool.{Bool, false, cond, _||_}
-use mathlib.Core.List.{List, [], _∷_}
+use mathlib.Core.Bool.{Bool, false, _||_}
+use mathlib.Core.List.{List, [], _∷_, _++_}
 use Prim.Native.Nat.{ℕ, _^_}
 use lib.Dec.{leb}
 use Rattle.gf2.specs.Poly.{degree}
+use Rattle.refusals.specs.Verdicts.{Rule}
 use Rattle.field.specs.Accepted.{degreeOutside, divided, strays}
-
-pub record Rule : Type 0 where
-  pub number : ℕ
-  pub place : ℕ
-  pub applies : Bool
-
--- what an order finds: nothing to refuse, or a number and a place
-pub data Verdict : Type 0 where
-  clear : Verdict
-  refuse : (number place : ℕ) → Verdict
-
-unfoldable pub firstOf : List Rule → Verdict
-firstOf [] = clear
-firstOf (r ∷ rs) = cond (r .applies) (refuse (r .number) (r .place)) (firstOf rs)
-
--- the number alone; "Done is 0"
-unfoldable pub numberOf : Verdict → ℕ
-numberOf clear = 0
-numberOf (refuse k p) = k
 
 -- ---- the rows
 
@@ -59,20 +42,22 @@ elementRule n values = record { number = 4; place = 0; applies = anyTooLarge n v
 
 -- ---- the orders
 
--- "Multiply, square: 1, 4."
-abbrev pub multiplyOrder : (f a b : ℕ) → List Rule
-multiplyOrder f a b = degreeRule f ∷ elementRule (degree f) (a ∷ b ∷ []) ∷ []
+abbrev pub operandOrder : (f : ℕ) → List ℕ → List Rule
+operandOrder f values = degreeRule f ∷ elementRule (degree f) values ∷ []
 
-abbrev pub squareOrder : (f a : ℕ) → List Rule
-squareOrder f a = degreeRule f ∷ elementRule (degree f) (a ∷ []) ∷ []
-
--- 2 and 3, which every call that needs an accepted f tests together
 abbrev pub fieldOrder : (f : ℕ) → List Rule
 fieldOrder f = divisorRule f ∷ returnRule f ∷ []
 
+-- "Multiply, square: 1, 4."
+abbrev pub multiplyOrder : (f a b : ℕ) → List Rule
+multiplyOrder f a b = operandOrder f (a ∷ b ∷ [])
+
+abbrev pub squareOrder : (f a : ℕ) → List Rule
+squareOrder f a = operandOrder f (a ∷ [])
+
 -- "Trace: 1, 4, 2, 3."
 abbrev pub traceOrder : (f a : ℕ) → List Rule
-traceOrder f a = degreeRule f ∷ elementRule (degree f) (a ∷ []) ∷ fieldOrder f
+traceOrder f a = operandOrder f (a ∷ []) ++ fieldOrder f
 
 -- "Check of f: 1, 2, 3."
 abbrev pub checkOrder : (f : ℕ) → List Rule

@@ -1,17 +1,19 @@
 // The conditions under which f is accepted, as the calls test them (document 01, "Two notations").
 ghost use mathlib.Core.Path.{_≡_};
 ghost use mathlib.Core.Bool.{cond};
-ghost use Prim.Native.Nat.{_/_, _^_, _≤_, _<_};
-ghost use Rattle.gf2.specs.Poly.{Degree};
+ghost use Prim.Native.Nat.{_/_, _<_};
 ghost use Rattle.gf2.specs.Spread.{SpreadTable};
+ghost use Rattle.refusals.specs.Verdicts.{firstOf};
+ghost use Rattle.refusals.specs.Answers.{checkedOf};
 ghost use Rattle.field.specs.Field.{squared};
-ghost use Rattle.gf2.specs.Limit.{limit};
-ghost use Rattle.field.specs.Accepted.{degreeOutside, divided};
-ghost use Rattle.field.specs.Refusals.{firstOf, numberOf, fieldOrder, tooLarge};
+ghost use Rattle.field.specs.Accepted.{degreeOutside, divided, InRange, Element};
+ghost use Rattle.field.specs.Refusals.{fieldOrder, tooLarge};
 use gf2::LIMIT;
 use gf2::degree_of;
 use gf2::greatest_common;
 use gf2::square;
+use refusals::Checked;
+use refusals::refused;
 
 // Refusal 1: the degree of f is not 2 to LIMIT.
 pub fn degree_outside(f: u64) -> bool
@@ -30,8 +32,8 @@ pub fn too_large(n: u32, a: u64) -> bool
 }
 
 // a squared k times in a row.
-pub fn squared_times(table: &[u16; 256], f: u64, n: u32, k: u32, a: u64) -> u64
-    requires { ⌜ SpreadTable (now table) × (n ≤ limit) × Degree f n × (a < 2 ^ n) ⌝ }
+fn squared_times(table: &[u16; 256], f: u64, n: u32, k: u32, a: u64) -> u64
+    requires { ⌜ SpreadTable (now table) × Element f n a ⌝ }
     ensures { λ r. ⌜ r ≡ squared f n k a ⌝ }
 {
     let mut y = a;
@@ -44,7 +46,7 @@ pub fn squared_times(table: &[u16; 256], f: u64, n: u32, k: u32, a: u64) -> u64
 }
 
 // Whether f is divided; and what x has become half way through its n squarings, or 0 where f is divided.
-pub struct Halfway {
+struct Halfway {
     pub divided: bool,
     pub conjugate: u64,
 }
@@ -52,7 +54,7 @@ pub struct Halfway {
 // f, of degree n, has a divisor of degree 1 to n-1 exactly if, for some i from 1 to n/2, f and x^(2^i) + x have a common divisor
 // other than 1.
 fn squared_half(table: &[u16; 256], f: u64, n: u32) -> Halfway
-    requires { ⌜ SpreadTable (now table) × (2 ≤ n) × (n ≤ limit) × Degree f n ⌝ }
+    requires { ⌜ SpreadTable (now table) × InRange f n ⌝ }
     ensures { λ r. ⌜ (r .divided ≡ divided f n) × (r .conjugate ≡ cond (divided f n) 0 (squared f n (n / 2) 2)) ⌝ }
 {
     let mut y: u64 = 2;
@@ -73,18 +75,17 @@ fn squared_half(table: &[u16; 256], f: u64, n: u32) -> Halfway
     }
 }
 
-// The refusal number of the first of conditions 2 and 3 that applies to f, of degree n, or 0.
-pub fn field_refusal(table: &[u16; 256], f: u64, n: u32) -> u8
-    requires { ⌜ SpreadTable (now table) × (2 ≤ n) × (n ≤ limit) × Degree f n ⌝ }
-    ensures { λ r. ⌜ r ≡ numberOf (firstOf (fieldOrder f)) ⌝ }
+// The verdict of conditions 2 and 3 on f, of degree n.
+pub fn field_verdict(table: &[u16; 256], f: u64, n: u32) -> Checked
+    requires { ⌜ SpreadTable (now table) × InRange f n ⌝ }
+    ensures { λ r. ⌜ r ≡ checkedOf (firstOf (fieldOrder f)) ⌝ }
 {
     let half = squared_half(table, f, n);
     if half.divided {
-        return 2;
+        return refused(2);
     }
-    if squared_times(table, f, n, n - n / 2, half.conjugate) == 2 {
-        0
-    } else {
-        3
+    if squared_times(table, f, n, n - n / 2, half.conjugate) != 2 {
+        return refused(3);
     }
+    Checked::Done
 }

@@ -1,16 +1,13 @@
 // The field that a polynomial defines: what makes it accepted, and the calls check, multiply, square and trace.
 mod accepted;
-mod answer;
 mod calls;
+mod judging;
 
-pub use accepted::degree_outside;
-pub use accepted::field_refusal;
-pub use accepted::squared_times;
+pub use accepted::field_verdict;
 pub use accepted::too_large;
-pub use answer::Checked;
-pub use answer::Refusal;
-pub use answer::Value;
 pub use calls::check;
 pub use calls::multiply;
 pub use calls::square;
 pub use calls::trace;
+pub use judging::operand_verdict;
+pub use judging::operands_verdict;

@@ -14,29 +14,11 @@ use native.Mathlib.Omega.{arith}
 use lib.Dec.{ltb}
 use borrow.Author.Tests.{lt-ltb, le-ltb}
 use Rattle.gf2.specs.Numbers.{order}
+use Rattle.gf2.specs.Truth.{or-cases, or-right, bool-cases, not-both, not-true-false}
 
 unfoldable pub some : ℕ → (ℕ → Bool) → Bool
 some zero t = false
 some (suc k) t = t k || some k t
-
-pub or-cases : (a b : Bool) → (a || b) ≡ true → (a ≡ true) ⊎ (b ≡ true)
-or-cases true b e = inl refl
-or-cases false b e = inr e
-
-pub or-right : (a b : Bool) → b ≡ true → (a || b) ≡ true
-or-right true b e = refl
-or-right false b e = e
-
-pub bool-cases : (b : Bool) → (b ≡ true) ⊎ (b ≡ false)
-bool-cases true = inl refl
-bool-cases false = inr refl
-
-pub not-both : (b : Bool) → b ≡ true → b ≡ false → ⊥
-not-both b p q = let z : _≡_ {A = ℕ} 0 1 = cc in omega arith
-
-pub not-true-false : (b : Bool) → (b ≡ true → ⊥) → b ≡ false
-not-true-false true h = absurd (h refl)
-not-true-false false h = refl
 
 some-found : (k : ℕ) (t : ℕ → Bool) → some k t ≡ true → (d : ℕ) × (d < k) × (t d ≡ true)
 unfolding some

@@ -1,6 +1,7 @@
 -- Polynomials over the two-element field as numbers: definitions in `Poly`, laws in the rest.
 pub mod Poly
 pub mod Numbers
+pub mod Truth
 pub mod Sum
 pub mod Product
 pub mod Remainder

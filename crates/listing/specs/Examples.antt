@@ -8,7 +8,8 @@ use Rattle.gf2.specs.Poly.{_⊕_, digitsFrom, digits, product, degree, reduce, 
 use Rattle.gf2.specs.Bounded.{some, first}
 use Rattle.field.specs.Field.{squared}
 use Rattle.field.specs.Accepted.{degreeOutside, divided, strays}
-use Rattle.field.specs.Refusals.{firstOf, tooLarge}
+use Rattle.refusals.specs.Verdicts.{firstOf}
+use Rattle.field.specs.Refusals.{tooLarge}
 use Rattle.rows.specs.Rows.{comb, independent}
 use Rattle.normal.specs.Normal.{conjugatesFrom, conjugates, normal, coordinates, listed, inverseRows, tableRows, complexity}
 use Rattle.normal.specs.Grades.{prime, gradeOf, gradeNumber}

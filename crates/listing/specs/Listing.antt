@@ -7,13 +7,14 @@ use native.Mathlib.Omega.{arith}
 use lib.ListN.{length, drop, length-append}
 use lib.Seq.{take-append-seam}
 use Rattle.io.specs.Counts.{Counts}
-use Rattle.field.specs.Refusals.{clear, firstOf}
-use Rattle.field.specs.declared.answer.Refusal.{Refusal}
+use Rattle.refusals.specs.Verdicts.{clear, firstOf}
+use Rattle.refusals.specs.declared.answer.Refusal.{Refusal}
 use Rattle.normal.specs.Grades.{gradeNumber}
 use Rattle.sheet.specs.Record.{recordCount, conjugateIn, polynomialIn}
 use Rattle.sheet.specs.Orders.{basisOrder, differRules, rebuiltFrom, shapeOrder}
 use Rattle.sheet.specs.Answers.{done-clear, summaryOf, readAnswer}
-use Rattle.sheet.specs.Verdicts.{first-append, then-clear}
+use Rattle.refusals.specs.Orders.{first-append}
+use Rattle.sheet.specs.Verdicts.{then-clear}
 use Rattle.sheet.specs.Shape.{Sized}
 use Rattle.sheet.specs.Clear.{clear-shaped}
 use Rattle.sheet.specs.declared.answer.Summary.{Summary}

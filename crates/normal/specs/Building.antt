@@ -8,6 +8,7 @@ use Prim.Native.Nat.{ℕ, _^_, _≤_, _<_}
 use native.Mathlib.Omega.{arith}
 use lib.ListN.{length, getD}
 use Rattle.gf2.specs.Limit.{limit}
+use Rattle.gf2.specs.Truth.{same-truth}
 use Rattle.gf2.specs.Poly.{mulMod, Degree}
 use Rattle.field.specs.Field.{squared}
 use Rattle.field.specs.Ring.{mulMod-lt}
@@ -20,11 +21,6 @@ use Rattle.normal.specs.Basis.{noBasis, builtOf}
 use Rattle.normal.specs.Selected.{conjugates-at, conjugates-length}
 use Rattle.normal.specs.Coordinates.{listed-ext, normal-means, dependency-is, inverseRows-inverse, inverseRows-length, convert-coordinates}
 use Rattle.normal.specs.Filling.{padded-length, padded-at, padded-comb, padded-ext, padded-inverse}
-
-same-truth : (a b : Bool) → (a ≡ true → b ≡ true) → (b ≡ true → a ≡ true) → a ≡ b
-same-truth true b f g = sym (f refl)
-same-truth false true f g = g refl
-same-truth false false f g = refl
 
 module _ (f n a : ℕ) (deg : Degree f n) (small : n ≤ limit) (ha : a < 2 ^ n) (r : Inverted) (inverts : Inverts (padded (conjugates f n a)) n r) where
   short : length (conjugates f n a) ≤ limit

@@ -21,7 +21,8 @@ use Rattle.field.specs.Frobenius.{squared-lt}
 use Rattle.rows.specs.Rows.{comb, Matrix, Independent, Inverse, Dependency}
 use Rattle.rows.specs.Sums.{comb-lt}
 use Rattle.rows.specs.Inverses.{independent-injective, inverse-left, inverse-right}
-use Rattle.rows.specs.Decision.{independent-means, independent-onto, inverse-of-right, and-both, and-parts}
+use Rattle.gf2.specs.Truth.{and-both, and-parts}
+use Rattle.rows.specs.Decision.{independent-means, independent-onto, inverse-of-right}
 use Rattle.normal.specs.Normal.{conjugates, normal, dependency, coordinates, listed, inverseRows, tableRows}
 use Rattle.normal.specs.TableProduct.{rotate}
 use Rattle.normal.specs.Rotation.{rotate-lt}

@@ -15,7 +15,7 @@ use native.Mathlib.Omega.{arith}
 use lib.ListN.{getD}
 use Rattle.gf2.specs.Poly.{_⊕_, product, reduce, rem, mulMod, Degree}
 use Rattle.gf2.specs.Numbers.{order, pow-next}
-use Rattle.gf2.specs.Bounded.{not-true-false}
+use Rattle.gf2.specs.Truth.{not-true-false}
 use Rattle.gf2.specs.Sum.{⊕-comm, ⊕-digit, ⊕-middle, ⊕-top}
 use Rattle.gf2.specs.Product.{product-double-l}
 use Rattle.gf2.specs.Remainder.{reduce-small, reduce-large, rem-small, rem-double, mulMod-zero-r}

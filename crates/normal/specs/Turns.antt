@@ -23,7 +23,7 @@ use Rattle.gf2.specs.Bounded.{some, some-means, none-means}
 use Rattle.field.specs.Field.{squared}
 use Rattle.rows.specs.Rows.{comb}
 use Rattle.rows.specs.Bits.{bitOf}
-use Rattle.rows.specs.Decision.{and-both, and-parts}
+use Rattle.gf2.specs.Truth.{and-both, and-parts}
 use Rattle.normal.specs.Normal.{conjugates, listed, complexity}
 use Rattle.normal.specs.TableProduct.{rotate}
 use Rattle.normal.specs.Grades.{prime}

@@ -12,8 +12,11 @@ use Rattle.gf2.specs.Degrees.{degree-eq}
 use Rattle.gf2.specs.Poly.{degree, Degree}
 use Rattle.field.specs.Accepted.{Accepted, degreeOutside}
 use Rattle.field.specs.Checked.{accepted-degree}
-use Rattle.field.specs.Orders.{or-false, not-too-large, first-clear}
-use Rattle.field.specs.Refusals.{clear, firstOf, tooLarge, degreeRule, divisorRule, returnRule, elementRule, fieldOrder}
+use Rattle.gf2.specs.Truth.{or-false}
+use Rattle.refusals.specs.Orders.{first-clear, first-append}
+use Rattle.field.specs.Orders.{not-too-large}
+use Rattle.refusals.specs.Verdicts.{clear, firstOf}
+use Rattle.field.specs.Refusals.{tooLarge, degreeRule, divisorRule, returnRule, elementRule, fieldOrder}
 use Rattle.rows.specs.Rows.{Independent}
 use Rattle.normal.specs.Normal.{conjugates, normal}
 use Rattle.normal.specs.Coordinates.{normal-means}
@@ -24,7 +27,7 @@ use Rattle.sheet.specs.Basis.{basis-clear}
 use Rattle.sheet.specs.Clear.{Shaped, clear-shaped, polynomial-degree}
 use Rattle.sheet.specs.Reading.{read-records}
 use Rattle.sheet.specs.Rebuilding.{sheetBytes-length}
-use Rattle.sheet.specs.Verdicts.{first-append, then-clear}
+use Rattle.sheet.specs.Verdicts.{then-clear}
 use Rattle.sheet.specs.Written.{written-count, written-shape, written-polynomial, written-element, written-rebuilt, itself-clear, same-sheets}
 use Rattle.promises.specs.Issuing.{normal-rule, accepted-field}
 

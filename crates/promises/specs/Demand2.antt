@@ -19,15 +19,16 @@ use Prim.Native.Nat.{ℕ, _*_, _^_, _≤_, _<_}
 use native.Mathlib.Omega.{arith}
 use lib.ListN.{length, getD, drop, take}
 use lib.Seq.{take-append-seam}
-use Rattle.gf2.specs.Bounded.{bool-cases}
+use Rattle.gf2.specs.Truth.{bool-cases}
 use Rattle.gf2.specs.Poly.{degree, mulMod}
 use Rattle.field.specs.Accepted.{Accepted}
-use Rattle.field.specs.Answers.{multiplyAnswer, checkedOf}
+use Rattle.refusals.specs.Answers.{checkedOf}
+use Rattle.field.specs.Answers.{multiplyAnswer}
 use Rattle.field.specs.Checked.{accepted-degree}
 use Rattle.field.specs.Field.{squared}
-use Rattle.field.specs.Refusals.{Verdict, firstOf}
-use Rattle.field.specs.declared.answer.Checked.the-variants as checked
-use Rattle.field.specs.declared.answer.Value.the-variants as value
+use Rattle.refusals.specs.Verdicts.{Verdict, firstOf}
+use Rattle.refusals.specs.declared.answer.Checked.the-variants as checked
+use Rattle.refusals.specs.declared.answer.Value.the-variants as value
 use Rattle.rows.specs.Rows.{comb, Independent}
 use Rattle.normal.specs.Normal.{conjugates, normal}
 use Rattle.normal.specs.Coordinates.{normal-means}

@@ -15,8 +15,10 @@ use Rattle.gf2.specs.Poly.{_⊕_, digitsFrom, digits, product, degree, reduce, 
 use Rattle.gf2.specs.Bounded.{some, first}
 use Rattle.field.specs.Field.{squared}
 use Rattle.field.specs.Accepted.{degreeOutside, divided, strays}
-use Rattle.field.specs.Refusals.{firstOf, tooLarge}
-use Rattle.field.specs.Answers.{Report, reportOf, checkReport}
+use Rattle.refusals.specs.Verdicts.{firstOf}
+use Rattle.field.specs.Refusals.{tooLarge}
+use Rattle.refusals.specs.Answers.{Report, reportOf}
+use Rattle.field.specs.Answers.{checkReport}
 use Rattle.rows.specs.Bits.{bitOf}
 use Rattle.rows.specs.Rows.{comb, independent}
 use Rattle.normal.specs.Normal.{conjugatesFrom, conjugates, normal, coordinates, listed, inverseRows, tableRows, complexity}

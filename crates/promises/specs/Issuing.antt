@@ -16,14 +16,17 @@ use native.Mathlib.Omega.{arith}
 use lib.ListN.{length, getD}
 use borrow.Author.Tests.{lt-leb}
 use Rattle.gf2.specs.Limit.{limit}
-use Rattle.gf2.specs.Bounded.{not-both}
+use Rattle.gf2.specs.Truth.{not-both}
 use Rattle.gf2.specs.Poly.{degree, mulMod, Degree}
 use Rattle.field.specs.Accepted.{Accepted}
-use Rattle.field.specs.Answers.{valueOf, multiplyAnswer}
+use Rattle.refusals.specs.Answers.{valueOf}
+use Rattle.field.specs.Answers.{multiplyAnswer}
 use Rattle.field.specs.Checked.{accepted-degree, accepted-returns}
-use Rattle.field.specs.Orders.{first-passes, first-none, first-clear, any-next}
-use Rattle.field.specs.Refusals.{Verdict, clear, refuse, firstOf, numberOf, tooLarge, degreeRule, divisorRule, returnRule, elementRule, fieldOrder}
-use Rattle.field.specs.declared.answer.Value.the-variants as value
+use Rattle.refusals.specs.Orders.{first-passes, first-none, first-clear}
+use Rattle.field.specs.Orders.{any-next}
+use Rattle.refusals.specs.Verdicts.{Verdict, clear, refuse, firstOf}
+use Rattle.field.specs.Refusals.{numberOf, tooLarge, degreeRule, divisorRule, returnRule, elementRule, fieldOrder}
+use Rattle.refusals.specs.declared.answer.Value.the-variants as value
 use Rattle.rows.specs.Rows.{comb, Independent}
 use Rattle.normal.specs.Normal.{conjugates, normal, inverseRows, tableRows}
 use Rattle.normal.specs.Coordinates.{inverseRows-inverse}

@@ -15,7 +15,8 @@ use lib.ListN.{length, set, getD, replicate, length-replicate}
 use borrow.Author.Tests.{lt-ltb, ltb-true, eq-eqb, eqb-true}
 use Rattle.gf2.specs.Poly.{_⊕_}
 use Rattle.gf2.specs.Numbers.{order}
-use Rattle.gf2.specs.Bounded.{some, none-means, not-both}
+use Rattle.gf2.specs.Truth.{not-true, and-parts, and-both}
+use Rattle.gf2.specs.Bounded.{some, none-means}
 use Rattle.rows.specs.Rows.{comb, Matrix, Independent, independent, Inverse, Dependency}
 use Rattle.rows.specs.Sums.{comb-zero, comb-power, comb-lt}
 use Rattle.rows.specs.Bits.{_∩_}
@@ -125,17 +126,6 @@ inverse-of-right rows n inv m h =
     free v p l e = let z : v ≡ 0 = sym (undo v l) ∙ ap (comb rows) e ∙ comb-zero rows in omega arith
 
 -- ---- the test
-
-pub and-parts : (a b : Bool) → (a && b) ≡ true → (a ≡ true) × (b ≡ true)
-and-parts true b e = (refl, e)
-and-parts false b e = absurd (not-both false e refl)
-
-pub and-both : (a b : Bool) → a ≡ true → b ≡ true → (a && b) ≡ true
-and-both a b p q = rw (p, q)
-
-not-true : (b : Bool) → (not b ≡ true) ↔ (b ≡ false)
-not-true true = (λ e. absurd (not-both false e refl), λ e. absurd (not-both true refl e))
-not-true false = (λ e. refl, λ e. refl)
 
 pub independent-means : (rows : List ℕ) (n : ℕ) → (independent rows n ≡ true) ↔ Independent rows n
 unfolding independent

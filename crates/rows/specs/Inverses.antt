@@ -15,7 +15,7 @@ use lib.Seq.{ext-getD}
 use Rattle.gf2.specs.Poly.{_⊕_}
 use Rattle.gf2.specs.Numbers.{order}
 use Rattle.gf2.specs.Sum.{⊕-self, ⊕-lt, ⊕-eq-zero}
-use Rattle.gf2.specs.Bounded.{not-both}
+use Rattle.gf2.specs.Truth.{not-both}
 use Rattle.rows.specs.declared.inversion.Inverted.{Inverted}
 use Rattle.rows.specs.Rows.{comb, Independent, Inverse, Dependency, InvertsAs, Inverts}
 use Rattle.rows.specs.Linear.{linear-ext, linear-same, linear-after}

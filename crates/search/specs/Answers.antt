@@ -10,7 +10,8 @@ use mathlib.Core.List.{List, [], _∷_}
 use Prim.Native.Nat.{ℕ}
 use lib.Dec.{ltb}
 use Rattle.gf2.specs.Poly.{degree}
-use Rattle.field.specs.Refusals.{Rule, Verdict, clear, refuse, firstOf, degreeRule, elementRule, fieldOrder}
+use Rattle.refusals.specs.Verdicts.{Rule, Verdict, clear, refuse, firstOf}
+use Rattle.field.specs.Refusals.{degreeRule, elementRule, fieldOrder}
 use Rattle.normal.specs.Grades.{gradeNumber}
 use Rattle.search.specs.Search.{ranged}
 use Rattle.search.specs.declared.answer.Search.{Search}

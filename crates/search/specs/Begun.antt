@@ -10,7 +10,7 @@ use mathlib.Core.Logic.{⊎-elim}
 use mathlib.Core.Bool.{true, false}
 use Prim.Native.Nat.{ℕ, suc, _+_, _-_, _≤_, _<_}
 use native.Mathlib.Omega.{arith}
-use Rattle.gf2.specs.Bounded.{bool-cases}
+use Rattle.gf2.specs.Truth.{bool-cases}
 use Rattle.normal.specs.Grades.{gradeOf}
 use Rattle.search.specs.Search.{normalLeader, better, alone, joined, candidateOf, walked, ranged}
 use Rattle.search.specs.Joined.{before, better-right, better-left, nothing-joined, joined-assoc}

@@ -15,8 +15,7 @@ use native.Mathlib.Omega.{arith}
 use lib.Dec.{ltb, eqb}
 use borrow.Author.Tests.{lt-ltb, eq-eqb, ltb-true, eqb-true}
 use Rattle.gf2.specs.Numbers.{order}
-use Rattle.gf2.specs.Bounded.{bool-cases, not-both, or-cases, or-right, not-true-false}
-use Rattle.rows.specs.Decision.{and-both, and-parts}
+use Rattle.gf2.specs.Truth.{bool-cases, not-both, or-cases, or-right, not-true-false, and-both, and-parts}
 use Rattle.search.specs.Search.{precedes, withCount, better, joined, countOf}
 use Rattle.search.specs.declared.answer.Best.{Best}
 use Rattle.search.specs.declared.answer.Search.{Search}

@@ -12,7 +12,7 @@ use Prim.Native.Nat.{ℕ, zero, suc, _+_, _-_, _≤_, _<_}
 use native.Mathlib.Nat.{le-refl, le-antisymm, add-zero, add-suc, add-sub-of-le}
 use native.Mathlib.Omega.{arith}
 use Rattle.gf2.specs.Numbers.{order}
-use Rattle.gf2.specs.Bounded.{bool-cases, not-both, not-true-false}
+use Rattle.gf2.specs.Truth.{bool-cases, not-both, not-true-false}
 use Rattle.normal.specs.Grades.{gradeOf}
 use Rattle.normal.specs.declared.grade.Grade.{Grade}
 use Rattle.search.specs.Search.{normalLeader, alone, complexityAt, precedes, withCount, joined, candidateOf, walked, ranged, countOf, counted}

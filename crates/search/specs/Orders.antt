@@ -8,11 +8,13 @@ use mathlib.Core.List.{[], _∷_}
 use Prim.Native.Nat.{ℕ, _≤_, _<_}
 use borrow.Author.Tests.{lt-ltb, le-ltb}
 use Rattle.gf2.specs.Poly.{degree}
-use Rattle.gf2.specs.Bounded.{or-right}
+use Rattle.gf2.specs.Truth.{or-right}
 use Rattle.field.specs.Field.{squared, Irreducible}
 use Rattle.field.specs.Accepted.{degreeOutside, Accepted}
-use Rattle.field.specs.Refusals.{Verdict, clear, refuse, firstOf, tooLarge, degreeRule, elementRule, divisorRule, returnRule, fieldOrder}
-use Rattle.field.specs.Orders.{first-applies, first-passes, first-clear, any-first, any-next}
+use Rattle.refusals.specs.Verdicts.{Verdict, clear, refuse, firstOf}
+use Rattle.field.specs.Refusals.{tooLarge, degreeRule, elementRule, divisorRule, returnRule, fieldOrder}
+use Rattle.refusals.specs.Orders.{first-applies, first-passes, first-clear}
+use Rattle.field.specs.Orders.{any-first, any-next}
 use Rattle.field.specs.Checked.{accepted-irreducible, accepted-returns}
 use Rattle.search.specs.Answers.{rangeRule, searchOrder, searchOf, caseReport, reportOf}
 use Rattle.search.specs.declared.answer.Search.{Search}

@@ -10,10 +10,11 @@ use native.Mathlib.Omega.{arith}
 use borrow.Author.Tests.{le-leb, lt-leb}
 use Rattle.gf2.specs.Poly.{degree}
 use Rattle.gf2.specs.Numbers.{order}
-use Rattle.gf2.specs.Bounded.{bool-cases}
+use Rattle.gf2.specs.Truth.{bool-cases}
 use Rattle.field.specs.Accepted.{degreeOutside, Accepted}
-use Rattle.field.specs.Refusals.{Verdict, clear, refuse, firstOf, tooLarge, divisorRule, returnRule, fieldOrder}
-use Rattle.field.specs.Orders.{first-passes, first-none}
+use Rattle.refusals.specs.Verdicts.{Verdict, clear, refuse, firstOf}
+use Rattle.field.specs.Refusals.{tooLarge, divisorRule, returnRule, fieldOrder}
+use Rattle.refusals.specs.Orders.{first-passes, first-none}
 use Rattle.search.specs.Search.{joined, ranged}
 use Rattle.search.specs.Answers.{searchOrder, searchOf, searchAnswer}
 use Rattle.search.specs.Walks.{ranged-cut}

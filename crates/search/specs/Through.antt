@@ -23,7 +23,7 @@ use borrow.Author.Tests.{lt-ltb, le-ltb}
 use Rattle.gf2.specs.Poly.{mulMod, Degree}
 use Rattle.gf2.specs.Limit.{limit}
 use Rattle.gf2.specs.Numbers.{order}
-use Rattle.gf2.specs.Bounded.{bool-cases}
+use Rattle.gf2.specs.Truth.{bool-cases}
 use Rattle.field.specs.Field.{squared}
 use Rattle.field.specs.Frobenius.{squared-fixes}
 use Rattle.rows.specs.Rows.{comb, Independent}

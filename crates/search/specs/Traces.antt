@@ -20,7 +20,7 @@ use lib.Pow.{pow-pos}
 use borrow.Author.Tests.{eqb-false}
 use Rattle.gf2.specs.Poly.{_⊕_, Degree}
 use Rattle.gf2.specs.Numbers.{bitCases, order, mod-two-lt}
-use Rattle.gf2.specs.Bounded.{bool-cases}
+use Rattle.gf2.specs.Truth.{bool-cases}
 use Rattle.gf2.specs.Sum.{zero-⊕, ⊕-zero, ⊕-one-one, ⊕-half, ⊕-odd, ⊕-four}
 use Rattle.field.specs.Field.{squared, trace, Irreducible}
 use Rattle.field.specs.Trace.{trace-⊕, trace-bit}

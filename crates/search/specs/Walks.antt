@@ -7,8 +7,7 @@ use mathlib.Core.Bool.{true, false, cond}
 use Prim.Native.Nat.{ℕ, zero, suc, _+_, _-_, _≤_, _<_}
 use native.Mathlib.Nat.{add-assoc, add-zero, add-suc}
 use native.Mathlib.Omega.{arith}
-use Rattle.gf2.specs.Bounded.{bool-cases}
-use Rattle.rows.specs.Decision.{and-parts}
+use Rattle.gf2.specs.Truth.{bool-cases, and-parts}
 use Rattle.normal.specs.Normal.{normal}
 use Rattle.search.specs.Search.{leader, normalLeader, alone, joined, candidateOf, walked, ranged, countOf, counted}
 use Rattle.search.specs.Joined.{joined-nothing, joined-assoc, Answered, nothing, found, joined-answered, joined-count}

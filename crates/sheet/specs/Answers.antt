@@ -13,10 +13,10 @@ use Prim.Native.Nat.{ℕ}
 use native.Mathlib.Omega.{arith}
 use lib.ListN.{length, drop}
 use Rattle.gf2.specs.Poly.{degree}
-use Rattle.field.specs.Refusals.{Verdict, clear, refuse, firstOf}
-use Rattle.field.specs.Answers.{Report, reportOf, valueOf, checkedOf, refusalAt}
-use Rattle.field.specs.declared.answer.Value.{Value}
-use Rattle.field.specs.declared.answer.Checked.{Checked}
+use Rattle.refusals.specs.Verdicts.{Verdict, clear, refuse, firstOf}
+use Rattle.refusals.specs.Answers.{Report, reportOf, valueOf, checkedOf, refusalAt}
+use Rattle.refusals.specs.declared.answer.Value.{Value}
+use Rattle.refusals.specs.declared.answer.Checked.{Checked}
 use Rattle.rows.specs.Rows.{comb}
 use Rattle.normal.specs.Normal.{tableRows, complexity}
 use Rattle.normal.specs.TableProduct.{tableProduct}

@@ -9,8 +9,10 @@ use native.Mathlib.Omega.{arith}
 use lib.ListN.{length, take, drop}
 use lib.Pow.{shl-exact}
 use Rattle.gf2.specs.Limit.{limit}
-use Rattle.field.specs.Refusals.{clear, refuse, firstOf, numberOf, fieldOrder}
-use Rattle.field.specs.Orders.{first-applies, first-passes, first-none, field-clear, field-refused}
+use Rattle.refusals.specs.Verdicts.{clear, refuse, firstOf, andThen}
+use Rattle.field.specs.Refusals.{numberOf, fieldOrder}
+use Rattle.refusals.specs.Orders.{first-applies, first-passes, first-none, first-append}
+use Rattle.field.specs.Orders.{field-clear, field-refused}
 use Rattle.normal.specs.Normal.{conjugates, normal, inverseRows, tableRows, padded}
 use Rattle.normal.specs.Basis.{basisRows, builtOf}
 use Rattle.normal.specs.Coordinates.{listed-length}
@@ -18,7 +20,6 @@ use Rattle.normal.specs.Filling.{padded-at, padded-take}
 use Rattle.normal.specs.declared.basis.Basis.{Basis}
 use Rattle.sheet.specs.Record.{recordsTo, tailOf, sheetBytes}
 use Rattle.sheet.specs.Orders.{normalRule, basisOrder}
-use Rattle.sheet.specs.Verdicts.{andThen, first-append}
 use Rattle.sheet.specs.Bytes.{pasted}
 use Rattle.sheet.specs.Answers.{summaryWith, summaryOf}
 

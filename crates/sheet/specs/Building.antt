@@ -8,8 +8,10 @@ use lib.ListN.{length, drop}
 use borrow.Author.Tests.{lt-ltb, le-ltb}
 use Rattle.gf2.specs.Poly.{degree}
 use Rattle.field.specs.Accepted.{degreeOutside}
-use Rattle.field.specs.Refusals.{clear, refuse, firstOf, tooLarge, degreeRule, elementRule}
-use Rattle.field.specs.Orders.{first-applies, first-passes, any-first, any-next}
+use Rattle.refusals.specs.Verdicts.{clear, refuse, firstOf}
+use Rattle.field.specs.Refusals.{tooLarge, degreeRule, elementRule}
+use Rattle.refusals.specs.Orders.{first-applies, first-passes}
+use Rattle.field.specs.Orders.{any-first, any-next}
 use Rattle.sheet.specs.Record.{recordSize, sheetBytes}
 use Rattle.sheet.specs.Orders.{roomRule, buildOrder, basisOrder}
 use Rattle.sheet.specs.Answers.{refusedAt, issuedOf, issuedReport, issued-report, summaryOf, buildAnswer, buildReport, written, builtBuffer}

@@ -10,8 +10,11 @@ use native.Mathlib.Omega.{arith}
 use lib.ListN.{length}
 use Rattle.gf2.specs.Numbers.{order, pow-next}
 use Rattle.gf2.specs.Poly.{Degree}
-use Rattle.field.specs.Refusals.{clear, firstOf, tooLarge}
-use Rattle.field.specs.Orders.{first-clear, not-too-large, or-false}
+use Rattle.refusals.specs.Verdicts.{clear, firstOf}
+use Rattle.field.specs.Refusals.{tooLarge}
+use Rattle.refusals.specs.Orders.{first-clear}
+use Rattle.gf2.specs.Truth.{or-false}
+use Rattle.field.specs.Orders.{not-too-large}
 use Rattle.rows.specs.Rows.{Matrix}
 use Rattle.normal.specs.Coordinates.{listed-at, listed-length, rows-matrix}
 use Rattle.sheet.specs.Record.{recordCount, wordSize, tableAt, fieldIn, rowsIn, tailIn, conjugateIn, inverseIn, tableIn, polynomialIn}

@@ -4,15 +4,17 @@ use mathlib.Core.Path.{_≡_, ap, _∙_}
 use mathlib.Core.Bool.{true, false}
 use mathlib.Core.List.{List, [], _++_}
 use Prim.Native.Nat.{ℕ}
-use Rattle.field.specs.Refusals.{Rule, Verdict, clear, refuse, firstOf, anyTooLarge, elementRule}
-use Rattle.field.specs.Answers.{reportOf, valueOf, valueReport, value-report}
-use Rattle.field.specs.Orders.{first-applies, first-passes, first-none}
-use Rattle.field.specs.declared.answer.Refusal.{Refusal}
-use Rattle.field.specs.declared.answer.Value.{Value}
-use Rattle.field.specs.declared.answer.Value.the-variants as value
+use Rattle.refusals.specs.Verdicts.{Rule, Verdict, clear, refuse, firstOf, andThen}
+use Rattle.field.specs.Refusals.{anyTooLarge, elementRule}
+use Rattle.refusals.specs.Answers.{reportOf, valueOf, valueReport}
+use Rattle.refusals.specs.Answered.{value-report}
+use Rattle.refusals.specs.Orders.{first-applies, first-passes, first-none, first-append}
+use Rattle.refusals.specs.declared.answer.Refusal.{Refusal}
+use Rattle.refusals.specs.declared.answer.Value.{Value}
+use Rattle.refusals.specs.declared.answer.Value.the-variants as value
 use Rattle.sheet.specs.Record.{recordCount}
 use Rattle.sheet.specs.Orders.{shapeOrder, valueOrder}
-use Rattle.sheet.specs.Verdicts.{refusalOf, andThen, first-append, refused-verdict}
+use Rattle.sheet.specs.Verdicts.{refusalOf, refused-verdict}
 
 -- ---- after the shape
 

@@ -13,16 +13,18 @@ use native.Mathlib.Omega.{arith}
 use lib.ListN.{length, getD, set, take, drop, drop-of-length-le, length-append, length-drop}
 use lib.Seq.{drop-cons, set-at, getD-at, take-suc, append-snoc, take-all}
 use borrow.Author.Tests.{lt-ltb, le-ltb, eq-eqb, ne-eqb}
-use Rattle.field.specs.Refusals.{clear, refuse, firstOf, tooLarge}
-use Rattle.field.specs.Answers.{checkedOf, checkedReport, checked-report}
-use Rattle.field.specs.Orders.{first-applies, first-passes, not-too-large}
-use Rattle.field.specs.declared.answer.Refusal.{Refusal}
-use Rattle.field.specs.declared.answer.Checked.{Checked}
-use Rattle.field.specs.declared.answer.Checked.the-variants as checked
+use Rattle.refusals.specs.Verdicts.{clear, refuse, firstOf}
+use Rattle.field.specs.Refusals.{tooLarge}
+use Rattle.refusals.specs.Answers.{checkedOf, checkedReport}
+use Rattle.refusals.specs.Answered.{checked-report}
+use Rattle.refusals.specs.Orders.{first-applies, first-passes, part-clear}
+use Rattle.field.specs.Orders.{not-too-large}
+use Rattle.refusals.specs.declared.answer.Refusal.{Refusal}
+use Rattle.refusals.specs.declared.answer.Checked.{Checked}
+use Rattle.refusals.specs.declared.answer.Checked.the-variants as checked
 use Rattle.sheet.specs.Record.{recordCount}
 use Rattle.sheet.specs.Orders.{listLimit, listRule, valueRules, shapeOrder, listOrder}
 use Rattle.sheet.specs.Answers.{convertedBy, listAnswer, listReport, listWritten, convertedList}
-use Rattle.sheet.specs.Converting.{part-clear}
 
 unfoldable pub firstLarge : (n i : ℕ) → List ℕ → ℕ
 firstLarge n i [] = i

@@ -8,7 +8,8 @@ use lib.Dec.{ltb, eqb}
 use lib.ListN.{length}
 use Rattle.gf2.specs.Limit.{limit}
 use Rattle.gf2.specs.Poly.{degree}
-use Rattle.field.specs.Refusals.{Rule, degreeRule, elementRule, tooLarge, fieldOrder}
+use Rattle.refusals.specs.Verdicts.{Rule}
+use Rattle.field.specs.Refusals.{degreeRule, elementRule, tooLarge, fieldOrder}
 use Rattle.normal.specs.Normal.{normal}
 use Rattle.sheet.specs.Record.{recordSize, recordCount, degreeIn, rowIn, tailIn, conjugateIn, inverseIn, tableIn, recordAt, polynomialIn, sheetBytes}
 

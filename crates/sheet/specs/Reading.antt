@@ -13,12 +13,12 @@ use native.Mathlib.Omega.{arith}
 use lib.ListN.{length, getD, drop, drop-of-length-le, length-drop}
 use lib.Seq.{drop-cons, getD-take, getD-drop, take-append-le, drop-append-le, length-take-le}
 use borrow.Author.Tests.{eq-eqb, ne-eqb}
-use Rattle.field.specs.Refusals.{Verdict, clear, refuse, firstOf}
-use Rattle.field.specs.declared.answer.Refusal.{Refusal}
+use Rattle.refusals.specs.Verdicts.{Verdict, clear, refuse, firstOf}
+use Rattle.refusals.specs.declared.answer.Refusal.{Refusal}
 use Rattle.sheet.specs.Record.{recordSize, recordCount, recordAt, conjugateIn, polynomialIn}
 use Rattle.sheet.specs.Orders.{same, differRules, shapeOrder, basisOrder, rebuiltFrom, readOrder}
 use Rattle.sheet.specs.Answers.{issuedOf, issuedReport, issued-report, summaryOf, readAnswer, readReport}
-use Rattle.sheet.specs.Converting.{part-refused, part-clear}
+use Rattle.refusals.specs.Orders.{part-refused, part-clear}
 use Rattle.sheet.specs.declared.answer.Summary.{Summary}
 use Rattle.sheet.specs.declared.answer.Issued.{Issued}
 use Rattle.sheet.specs.declared.answer.Issued.the-variants as issued

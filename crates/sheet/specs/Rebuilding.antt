@@ -8,7 +8,8 @@ use native.Mathlib.Omega.{arith}
 use lib.ListN.{length, drop}
 use lib.Pow.{pow-mono}
 use Rattle.gf2.specs.Poly.{Degree}
-use Rattle.field.specs.Refusals.{firstOf, numberOf, fieldOrder}
+use Rattle.refusals.specs.Verdicts.{firstOf}
+use Rattle.field.specs.Refusals.{numberOf, fieldOrder}
 use Rattle.normal.specs.Normal.{normal}
 use Rattle.normal.specs.Basis.{basisRows, builtOf}
 use Rattle.normal.specs.declared.basis.Built.{Built}

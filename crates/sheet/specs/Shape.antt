@@ -9,8 +9,10 @@ use lib.Dec.{ltb, eqb}
 use lib.ListN.{length}
 use borrow.Author.Tests.{lt-ltb, le-ltb, eq-eqb, ne-eqb, ltb-false, eqb-true, not-false}
 use Rattle.gf2.specs.Limit.{limit}
-use Rattle.field.specs.Refusals.{clear, refuse, firstOf, tooLarge}
-use Rattle.field.specs.Orders.{first-applies, first-passes, or-false}
+use Rattle.refusals.specs.Verdicts.{clear, refuse, firstOf}
+use Rattle.field.specs.Refusals.{tooLarge}
+use Rattle.refusals.specs.Orders.{first-applies, first-passes}
+use Rattle.gf2.specs.Truth.{or-false}
 use Rattle.sheet.specs.Record.{recordSize, recordCount, degreeIn, rowIn, tailIn, conjugateIn, inverseIn, tableIn}
 use Rattle.sheet.specs.Orders.{badLength, misplaced, oversized, recordRules, shapeOrder, lengthRule}
 

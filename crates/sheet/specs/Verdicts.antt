@@ -10,9 +10,9 @@ use mathlib.Core.Bool.{Bool, true, false, cond}
 use mathlib.Core.List.{List, [], _∷_, _++_}
 use Prim.Native.Nat.{ℕ, _<_}
 use native.Mathlib.Omega.{arith}
-use Rattle.field.specs.Refusals.{Rule, Verdict, clear, refuse, firstOf}
-use Rattle.field.specs.Answers.{refusalAt}
-use Rattle.field.specs.declared.answer.Refusal.{Refusal}
+use Rattle.refusals.specs.Verdicts.{Rule, Verdict, clear, refuse, firstOf}
+use Rattle.refusals.specs.Answers.{refusalAt}
+use Rattle.refusals.specs.declared.answer.Refusal.{Refusal}
 
 unfoldable pub refusalOf : Verdict → Refusal
 refusalOf clear = refusalAt 0 0

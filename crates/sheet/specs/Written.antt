@@ -16,12 +16,12 @@ use borrow.Author.Tests.{lt-leb, le-ltb, eq-eqb, eqb-true, not-false}
 use Rattle.gf2.specs.Limit.{limit}
 use Rattle.gf2.specs.Numbers.{order, pow-next}
 use Rattle.gf2.specs.Poly.{Degree}
-use Rattle.gf2.specs.Bounded.{not-both}
+use Rattle.gf2.specs.Truth.{not-both, and-parts}
 use Rattle.field.specs.Field.{squared}
-use Rattle.field.specs.Refusals.{clear, firstOf, tooLarge}
-use Rattle.field.specs.Orders.{first-passes, first-none, first-clear}
+use Rattle.refusals.specs.Verdicts.{clear, firstOf}
+use Rattle.field.specs.Refusals.{tooLarge}
+use Rattle.refusals.specs.Orders.{first-passes, first-none, first-clear}
 use Rattle.rows.specs.Rows.{Independent}
-use Rattle.rows.specs.Decision.{and-parts}
 use Rattle.normal.specs.Normal.{conjugates, inverseRows, tableRows, listed}
 use Rattle.normal.specs.Coordinates.{listed-at, listed-length, conjugates-matrix, inverseRows-length, inverseRows-inverse}
 use Rattle.normal.specs.Selected.{conjugates-at, conjugates-length}

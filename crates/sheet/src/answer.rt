@@ -1,6 +1,6 @@
 // What building and reading a sheet answer.
-use field::Refusal;
 use normal::Grade;
+use refusals::Refusal;
 
 // "Build and reading answer n, complexity and grade" (document 01, "Refusal numbers").
 pub struct Summary {

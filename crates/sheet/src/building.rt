@@ -10,7 +10,6 @@ use super::answer::Issued;
 use super::answer::Summary;
 use super::layout::RECORD;
 use super::record::put_sheet;
-use field::Refusal;
 use field::degree_outside;
 use field::field_refusal;
 use field::too_large;
@@ -20,6 +19,7 @@ use normal::Basis;
 use normal::build_basis;
 use normal::complexity_of;
 use normal::grade_of;
+use refusals::Refusal;
 
 // A refusal of something that is no part of a list or a sheet.
 pub fn refused(number: u8) -> Issued

@@ -1,7 +1,7 @@
 // The public calls that convert single values and multiply through a sheet, by its rows as they stand.
 ghost use mathlib.Core.Path.{_≡_};
 ghost use Prim.Native.Nat.{_+_, _≤_};
-ghost use Rattle.field.specs.Answers.{valueReport};
+ghost use Rattle.refusals.specs.Answers.{valueReport};
 ghost use Rattle.sheet.specs.Record.{recordSize};
 ghost use Rattle.sheet.specs.Answers.{convertAnswer, convertReport, polynomialAnswer, polynomialReport, normalAnswer, normalReport, timesAnswer, timesReport};
 use super::layout::CONJUGATE_AT;
@@ -10,10 +10,10 @@ use super::layout::RECORD;
 use super::layout::TABLE_AT;
 use super::shape::load_rows;
 use super::shape::shape_of;
-use field::Refusal;
-use field::Value;
 use field::too_large;
 use normal::product_of;
+use refusals::Refusal;
+use refusals::Value;
 use rows::sum;
 
 // The sum of the rows of one field that the bits of value pick.

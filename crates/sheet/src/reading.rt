@@ -16,11 +16,11 @@ use super::layout::TAIL_AT;
 use super::layout::WORD;
 use super::layout::number_at;
 use super::shape::shape_of;
-use field::Refusal;
 use field::field_refusal;
 use gf2::LIMIT;
 use gf2::spread_table;
 use normal::build_basis;
+use refusals::Refusal;
 
 // Whether record i of two sheets differs.
 fn record_differs(sheet: &[u8], rebuilt: &[u8], i: usize) -> bool

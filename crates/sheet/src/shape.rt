@@ -3,7 +3,7 @@ ghost use mathlib.Core.Path.{_≡_};
 ghost use Prim.Native.Nat.{_+_, _*_, _≤_};
 ghost use lib.ListN.{length};
 ghost use Rattle.gf2.specs.Limit.{limit};
-ghost use Rattle.field.specs.Refusals.{firstOf};
+ghost use Rattle.refusals.specs.Verdicts.{firstOf};
 ghost use Rattle.normal.specs.Normal.{padded};
 ghost use Rattle.sheet.specs.Record.{recordSize, recordCount, tailIn, rowsIn};
 ghost use Rattle.sheet.specs.Orders.{badLength, misplaced, oversized, shapeOrder};
@@ -19,9 +19,9 @@ use super::layout::TAIL;
 use super::layout::TAIL_AT;
 use super::layout::WORD;
 use super::layout::number_at;
-use field::Refusal;
 use field::too_large;
 use gf2::LIMIT;
+use refusals::Refusal;
 
 // Refusal 7: the length is not 32 times a count of 2 to 46.
 fn bad_length(size: usize) -> bool

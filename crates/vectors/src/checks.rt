@@ -2,7 +2,7 @@
 use super::printing::end_line;
 use super::printing::say;
 use super::printing::say_refusal;
-use field::Checked;
+use refusals::Checked;
 
 fn print_check(words: &[u8], f: u64) {
     say(words);

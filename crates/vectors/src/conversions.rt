@@ -3,7 +3,7 @@ use super::printing::say;
 use super::printing::say_number;
 use super::printing::say_refusal;
 use super::printing::say_value;
-use field::Value;
+use refusals::Value;
 use sheet::RECORD;
 
 // The coordinates of an element.

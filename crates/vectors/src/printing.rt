@@ -1,7 +1,7 @@
 // Words, numbers and refusals on standard output.
-use field::Refusal;
-use field::Value;
 use libc::STDOUT_FILENO;
+use refusals::Refusal;
+use refusals::Value;
 
 pub(crate) fn say(words: &[u8]) {
     io::write_all(STDOUT_FILENO, words);

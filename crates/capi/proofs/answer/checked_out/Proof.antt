@@ -2,8 +2,8 @@
 -- Assumes nothing.
 use mathlib.Core.Path.{sym, ap, _∙_}
 use borrow.Author.Needs.{needs}
-use Rattle.field.specs.Answers.{valueReport, checkedReport}
-use Rattle.field.specs.declared.answer.Checked.{Checked}
+use Rattle.refusals.specs.Answers.{valueReport, checkedReport}
+use Rattle.refusals.specs.declared.answer.Checked.{Checked}
 use Rattle.capi.specs.Answers.{deskValue}
 use Rattle.capi.proofs.answer.checked_out.Statement.{statement}
 use Rattle.capi.proofs.answer.checked_out.Tie as tie

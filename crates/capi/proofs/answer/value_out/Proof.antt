@@ -2,8 +2,8 @@
 -- Assumes nothing.
 use mathlib.Core.Path.{sym, ap}
 use borrow.Author.Needs.{needs}
-use Rattle.field.specs.Answers.{valueReport}
-use Rattle.field.specs.declared.answer.Value.{Value}
+use Rattle.refusals.specs.Answers.{valueReport}
+use Rattle.refusals.specs.declared.answer.Value.{Value}
 use Rattle.capi.specs.Answers.{deskValue}
 use Rattle.capi.proofs.answer.value_out.Statement.{statement}
 use Rattle.capi.proofs.answer.value_out.Tie as tie

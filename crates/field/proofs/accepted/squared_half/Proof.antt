@@ -54,22 +54,22 @@ f-pos f n deg = omega (arith, deg .low, pow-pos n)
 
 loop-holds : tie.Need-loop-holds Inv-loop μ-loop
 loop-holds c =
-    (omega arith, squared-start (c .args .f) (c .args .n) 2, none-to-zero (c .args .f) (c .args .n) (c .pre .3))
+    (omega arith, squared-start (c .args .f) (c .args .n) 2, none-to-zero (c .args .f) (c .args .n) (c .pre .1 .is-degree))
 
 square-requires : tie.Need-square-requires Inv-loop μ-loop
 square-requires c κs =
     let l = c .before in
     let s = l .before in (
       s .pre .0,
-      omega (arith, s .pre .2),
-      s .pre .3,
-      y-lt (s .args .f) (s .args .n) (s .pre .3) (s .pre .1) (l .loop .i) (l .loop .y) (c .loop-test .taken) (l .loop .inv .1),
+      omega (arith, s .pre .1 .most),
+      s .pre .1 .is-degree,
+      y-lt (s .args .f) (s .args .n) (s .pre .1 .is-degree) (s .pre .1 .two) (l .loop .i) (l .loop .y) (c .loop-test .taken) (l .loop .inv .1),
     )
 
 greatest-common-requires : tie.Need-greatest-common-requires Inv-loop μ-loop
 greatest-common-requires c κs =
     let s = c .before .before .before in
-    f-pos (s .args .f) (s .args .n) (s .pre .3)
+    f-pos (s .args .f) (s .args .n) (s .pre .1 .is-degree)
 
 returns : tie.Need-returns Inv-loop μ-loop
 returns c =
@@ -77,7 +77,7 @@ returns c =
     let q = g .before in
     let l = q .before .before in
     let s = l .before in
-    found (s .args .f) (s .args .n) (s .pre .3) (s .pre .1) (l .loop .i) (l .loop .y) (q .before .loop-test .taken) (l .loop .inv .1)
+    found (s .args .f) (s .args .n) (s .pre .1 .is-degree) (s .pre .1 .two) (l .loop .i) (l .loop .y) (q .before .loop-test .taken) (l .loop .inv .1)
     (q .square .result) (g .greatest-common .result) (q .square .ensures) (g .greatest-common .ensures) (c .if1 .taken)
 
 add-i : tie.Need-add-i Inv-loop μ-loop
@@ -92,14 +92,14 @@ loop-again c =
     let q = g .before in
     let l = q .before .before in
     let s = l .before in
-    again (s .args .f) (s .args .n) (s .pre .3) (s .pre .1) (l .loop .i) (l .loop .y) (q .before .loop-test .taken) (l .loop .inv .1)
+    again (s .args .f) (s .args .n) (s .pre .1 .is-degree) (s .pre .1 .two) (l .loop .i) (l .loop .y) (q .before .loop-test .taken) (l .loop .inv .1)
     (q .square .result) (g .greatest-common .result) (q .square .ensures) (g .greatest-common .ensures) (c .if1 .left) (l .loop .inv .2)
 
 returns-2 : tie.Need-returns-2 Inv-loop μ-loop
 returns-2 c =
     let l = c .before in
     let s = l .before in
-    done (s .args .f) (s .args .n) (s .pre .3) (s .pre .1) (l .loop .i) (l .loop .y) (c .loop-test .left) (l .loop .inv)
+    done (s .args .f) (s .args .n) (s .pre .1 .is-degree) (s .pre .1 .two) (l .loop .i) (l .loop .y) (c .loop-test .left) (l .loop .inv)
 
 pub squared-half-spec : {M : Type 1} → statement M
 squared-half-spec =

@@ -24,7 +24,7 @@ square-requires : tie.Need-square-requires Inv-loop μ-loop
 square-requires c κs =
     let l = c .before in
     let s = l .before in
-    (s .pre .0, omega (arith, s .pre .1), s .pre .2, rw (l .loop .inv .1) (squared-lt (s .args .f) (s .args .n) (s .pre .2) (l .loop .done) (s .args .a) (s .pre .3)))
+    (s .pre .0, omega (arith, s .pre .1 .in-range .most), s .pre .1 .in-range .is-degree, rw (l .loop .inv .1) (squared-lt (s .args .f) (s .args .n) (s .pre .1 .in-range .is-degree) (l .loop .done) (s .args .a) (s .pre .1 .small)))
 
 add-done : tie.Need-add-done Inv-loop μ-loop
 add-done c = omega arith
@@ -36,7 +36,7 @@ loop-again : tie.Need-loop-again Inv-loop μ-loop
 loop-again c =
     let l = c .before .before in
     let s = l .before in
-    (omega arith, squared-turn (s .args .f) (s .args .n) (s .pre .2) (l .loop .done) (s .args .a) (l .loop .y) (c .square .result) (l .loop .inv .1) (c .square .ensures))
+    (omega arith, squared-turn (s .args .f) (s .args .n) (s .pre .1 .in-range .is-degree) (l .loop .done) (s .args .a) (l .loop .y) (c .square .result) (l .loop .inv .1) (c .square .ensures))
 
 returns : tie.Need-returns Inv-loop μ-loop
 returns c =

@@ -37,7 +37,7 @@ square-requires : tie.Need-square-requires Inv-loop μ-loop
 square-requires c κs =
     let l = c .before in
     let s = l .before in
-    (s .pre .0, omega (arith, s .pre .1), s .pre .2, rw (l .loop .inv .2) (squared-lt (s .args .f) (s .args .n) (s .pre .2) (l .loop .i) (s .args .a) (s .pre .3)))
+    (s .pre .0, omega (arith, s .pre .1 .in-range .most), s .pre .1 .in-range .is-degree, rw (l .loop .inv .2) (squared-lt (s .args .f) (s .args .n) (s .pre .1 .in-range .is-degree) (l .loop .i) (s .args .a) (s .pre .1 .small)))
 
 add-i : tie.Need-add-i Inv-loop μ-loop
 add-i c = omega arith
@@ -51,7 +51,7 @@ loop-again c =
     let s = l .before in (
       omega arith,
       turn (s .args .f) (s .args .n) (l .loop .i) (s .args .a) (l .loop .sum) (l .loop .y) (l .loop .inv .1) (l .loop .inv .2),
-      squared-turn (s .args .f) (s .args .n) (s .pre .2) (l .loop .i) (s .args .a) (l .loop .y) (c .square .result) (l .loop .inv .2) (c .square .ensures),
+      squared-turn (s .args .f) (s .args .n) (s .pre .1 .in-range .is-degree) (l .loop .i) (s .args .a) (l .loop .y) (c .square .result) (l .loop .inv .2) (c .square .ensures),
     )
 
 returns : tie.Need-returns Inv-loop μ-loop

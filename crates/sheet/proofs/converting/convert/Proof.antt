@@ -7,7 +7,7 @@ use native.Mathlib.Omega.{arith}
 use borrow.Author.Needs.{needs}
 use lib.Pow.{pow-mono}
 use Rattle.field.specs.Orders.{not-too-large, any-first, any-next}
-use Rattle.field.specs.declared.answer.Refusal.{Refusal}
+use Rattle.refusals.specs.declared.answer.Refusal.{Refusal}
 use Rattle.rows.specs.Rows.{comb}
 use Rattle.normal.specs.Filling.{padded-comb}
 use Rattle.sheet.specs.Record.{recordCount, rowsIn}

@@ -7,7 +7,7 @@ use native.Mathlib.Omega.{arith}
 use borrow.Author.Needs.{needs}
 use lib.ListN.{take}
 use Rattle.field.specs.Orders.{not-too-large, any-first, any-next}
-use Rattle.field.specs.declared.answer.Refusal.{Refusal}
+use Rattle.refusals.specs.declared.answer.Refusal.{Refusal}
 use Rattle.rows.specs.Rows.{Matrix}
 use Rattle.normal.specs.Normal.{padded}
 use Rattle.normal.specs.TableProduct.{tableProduct}

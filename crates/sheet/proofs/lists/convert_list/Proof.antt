@@ -8,7 +8,7 @@ use borrow.Author.Needs.{needs}
 use lib.ListN.{length, getD}
 use lib.Pow.{pow-mono}
 use Rattle.gf2.specs.Limit.{limit}
-use Rattle.field.specs.declared.answer.Refusal.{Refusal}
+use Rattle.refusals.specs.declared.answer.Refusal.{Refusal}
 use Rattle.rows.specs.Rows.{comb}
 use Rattle.normal.specs.Normal.{padded}
 use Rattle.normal.specs.Filling.{padded-comb}

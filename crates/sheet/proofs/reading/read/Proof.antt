@@ -6,7 +6,7 @@ use Prim.Native.Nat.{ℕ, _^_, _<_}
 use native.Mathlib.Omega.{arith}
 use borrow.Author.Needs.{needs}
 use borrow.Author.Tests.{not-true, not-false}
-use Rattle.field.specs.declared.answer.Refusal.{Refusal}
+use Rattle.refusals.specs.declared.answer.Refusal.{Refusal}
 use Rattle.sheet.specs.Record.{recordCount, conjugateIn, polynomialIn, fieldIn}
 use Rattle.sheet.specs.Orders.{rebuiltFrom}
 use Rattle.sheet.specs.Clear.{Shaped, shape-clear, clear-shaped, fields-lt}

@@ -7,8 +7,8 @@ use Prim.Native.Nat.{ℕ, _-_, _≤_}
 use native.Mathlib.Omega.{arith}
 use borrow.Author.Needs.{needs}
 use lib.ListN.{length}
-use Rattle.field.specs.Refusals.{Verdict, clear, refuse, firstOf}
-use Rattle.field.specs.Answers.{refusalAt}
+use Rattle.refusals.specs.Verdicts.{Verdict, clear, refuse, firstOf}
+use Rattle.refusals.specs.Answers.{refusalAt}
 use Rattle.sheet.specs.Record.{recordCount, fieldIn}
 use Rattle.sheet.specs.Orders.{badLength, recordRules, shapeOrder}
 use Rattle.sheet.specs.Verdicts.{refusalOf}

@@ -1,0 +1,49 @@
+// The verdicts of the field calls' orders (document 01, "Refusal numbers"). A call judges its inputs first, and then works.
+ghost use mathlib.Core.Path.{_≡_};
+ghost use mathlib.Core.List.{[], _∷_};
+ghost use Rattle.gf2.specs.Spread.{SpreadTable};
+ghost use Rattle.refusals.specs.Verdicts.{firstOf};
+ghost use Rattle.refusals.specs.Answers.{checkedOf};
+ghost use Rattle.field.specs.Refusals.{operandOrder, traceOrder};
+use super::accepted::degree_outside;
+use super::accepted::field_verdict;
+use super::accepted::too_large;
+use gf2::degree_of;
+use refusals::Checked;
+use refusals::refused;
+
+// 1, then 4 for two operands.
+pub fn operands_verdict(f: u64, a: u64, b: u64) -> Checked
+    ensures { λ r. ⌜ r ≡ checkedOf (firstOf (operandOrder f (a ∷ b ∷ []))) ⌝ }
+{
+    if degree_outside(f) {
+        return refused(1);
+    }
+    let n = degree_of(f);
+    if too_large(n, a) {
+        return refused(4);
+    }
+    if too_large(n, b) {
+        return refused(4);
+    }
+    Checked::Done
+}
+
+// 1, then 4 for one operand.
+pub fn operand_verdict(f: u64, a: u64) -> Checked
+    ensures { λ r. ⌜ r ≡ checkedOf (firstOf (operandOrder f (a ∷ []))) ⌝ }
+{
+    operands_verdict(f, a, a)
+}
+
+// 1, 4, 2, 3.
+pub fn trace_verdict(table: &[u16; 256], f: u64, a: u64) -> Checked
+    requires { ⌜ SpreadTable (now table) ⌝ }
+    ensures { λ r. ⌜ r ≡ checkedOf (firstOf (traceOrder f a)) ⌝ }
+{
+    let operand = operand_verdict(f, a);
+    match operand {
+        Checked::Refused(refusal) => Checked::Refused(refusal),
+        Checked::Done => field_verdict(table, f, degree_of(f)),
+    }
+}
