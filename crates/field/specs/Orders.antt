@@ -17,7 +17,7 @@ use Rattle.gf2.specs.Limit.{limit}
 use Rattle.refusals.specs.Verdicts.{clear, refuse, firstOf}
 use Rattle.refusals.specs.Orders.{first-applies, first-passes, first-none, first-clear}
 use Rattle.field.specs.Accepted.{degreeOutside, divided, strays, InRange, Element}
-use Rattle.field.specs.Refusals.{tooLarge, anyTooLarge, degreeRule, elementRule, divisorRule, returnRule, operandOrder, fieldOrder}
+use Rattle.field.specs.Refusals.{tooLarge, anyTooLarge, degreeRule, elementRule, divisorRule, returnRule, elementOrder, operandOrder, fieldOrder}
 
 -- ---- condition 1
 
@@ -40,59 +40,71 @@ pub small-enough : (n a : ℕ) → a < 2 ^ n → tooLarge n a ≡ false
 unfolding tooLarge
 small-enough n a h = lt-leb (2 ^ n) a h
 
--- the test of one operand, made with the degree that a call has computed
-pub sized : (f n a : ℕ) {t b : Bool} → n ≡ degree f → t ≡ tooLarge n a → t ≡ b → tooLarge (degree f) a ≡ b
-sized f n a e p q = rw (← e) (sym p ∙ q)
+module _ (n : ℕ) (values : List ℕ) where
+  pub element-large : anyTooLarge n values ≡ true → firstOf (elementOrder n values) ≡ refuse 4 0
+  element-large e = first-applies (elementRule n values) [] e
 
-pub any-first : (n a : ℕ) (rest : List ℕ) → tooLarge n a ≡ true → anyTooLarge n (a ∷ rest) ≡ true
-any-first n a rest e = rw e
+  pub element-clear : anyTooLarge n values ≡ false → firstOf (elementOrder n values) ≡ clear
+  element-clear e = first-passes (elementRule n values) [] e ∙ first-none
 
-pub any-next : (n a : ℕ) (rest : List ℕ) {b : Bool} → tooLarge n a ≡ false → anyTooLarge n rest ≡ b → anyTooLarge n (a ∷ rest) ≡ b
-any-next n a rest e p = rw e p
+  pub element-passed : firstOf (elementOrder n values) ≡ clear → anyTooLarge n values ≡ false
+  element-passed e = first-clear (elementRule n values) [] e .0
 
--- ---- both
-
-module _ (f : ℕ) (values : List ℕ) where
-  pub operand-outside : degreeOutside f ≡ true → firstOf (operandOrder f values) ≡ refuse 1 0
-  operand-outside e = first-applies (degreeRule f) _ e
-
-  module _ (e : degreeOutside f ≡ false) where
-    pub operand-large : anyTooLarge (degree f) values ≡ true → firstOf (operandOrder f values) ≡ refuse 4 0
-    operand-large p = first-passes (degreeRule f) _ e ∙ first-applies (elementRule (degree f) values) [] p
-
-    pub operand-clear : anyTooLarge (degree f) values ≡ false → firstOf (operandOrder f values) ≡ clear
-    operand-clear p = first-passes (degreeRule f) _ e ∙ first-passes (elementRule (degree f) values) [] p ∙ first-none
-
-  pub operand-passed : firstOf (operandOrder f values) ≡ clear → (degreeOutside f ≡ false) × (anyTooLarge (degree f) values ≡ false)
-  operand-passed e =
-      let one = first-clear (degreeRule f) (elementRule (degree f) values ∷ []) e in
-      (one .0, first-clear (elementRule (degree f) values) [] (one .1) .0)
-
--- an operand that is given twice is judged as given once
-pub operand-twice : (f a : ℕ) → firstOf (operandOrder f (a ∷ a ∷ [])) ≡ firstOf (operandOrder f (a ∷ []))
-operand-twice f a = go (tooLarge (degree f) a) refl
+-- a number that is given twice is judged as given once
+pub any-twice : (n a : ℕ) → anyTooLarge n (a ∷ a ∷ []) ≡ anyTooLarge n (a ∷ [])
+any-twice n a = go (tooLarge n a) refl
   where
-    go : (b : Bool) → tooLarge (degree f) a ≡ b → firstOf (operandOrder f (a ∷ a ∷ [])) ≡ firstOf (operandOrder f (a ∷ []))
+    go : (b : Bool) → tooLarge n a ≡ b → anyTooLarge n (a ∷ a ∷ []) ≡ anyTooLarge n (a ∷ [])
     go true e = rw e
     go false e = rw e
 
+pub element-twice : (n a : ℕ) → firstOf (elementOrder n (a ∷ a ∷ [])) ≡ firstOf (elementOrder n (a ∷ []))
+unfolding firstOf
+element-twice n a = rw (any-twice n a)
+
+-- two numbers, tested one after the other
+module _ (n a b : ℕ) where
+  pub first-large : tooLarge n a ≡ true → firstOf (elementOrder n (a ∷ b ∷ [])) ≡ refuse 4 0
+  first-large e = element-large n (a ∷ b ∷ []) (rw e)
+
+  module _ (p : tooLarge n a ≡ false) where
+    pub second-large : tooLarge n b ≡ true → firstOf (elementOrder n (a ∷ b ∷ [])) ≡ refuse 4 0
+    second-large e = element-large n (a ∷ b ∷ []) (rw (p, e))
+
+    pub none-large : tooLarge n b ≡ false → firstOf (elementOrder n (a ∷ b ∷ [])) ≡ clear
+    none-large e = element-clear n (a ∷ b ∷ []) (rw (p, e))
+
+  -- what the test leaves
+  pub both-small : firstOf (elementOrder n (a ∷ b ∷ [])) ≡ clear → (a < 2 ^ n) × (b < 2 ^ n)
+  both-small e =
+      let p = or-false (tooLarge n a) (anyTooLarge n (b ∷ [])) (element-passed n (a ∷ b ∷ []) e) in
+      let q = or-false (tooLarge n b) false (p .1) in
+      (not-too-large n a (p .0), not-too-large n b (q .0))
+
+pub one-small : (n a : ℕ) → firstOf (elementOrder n (a ∷ [])) ≡ clear → a < 2 ^ n
+one-small n a e = both-small n a a (element-twice n a ∙ e) .0
+
+-- ---- both
+
+-- condition 4, judged with the degree that a call has computed
+pub operand-inside : (f n : ℕ) (values : List ℕ) → n ≡ degree f → degreeOutside f ≡ false → firstOf (operandOrder f values) ≡ firstOf (elementOrder n values)
+operand-inside f n values en e = first-passes (degreeRule f) _ e ∙ ap (λ (k : ℕ). firstOf (elementOrder k values)) (sym en)
+
+pub operand-twice : (f a : ℕ) → firstOf (operandOrder f (a ∷ a ∷ [])) ≡ firstOf (operandOrder f (a ∷ []))
+unfolding firstOf
+operand-twice f a = rw (any-twice (degree f) a)
+
 -- what conditions 1 and 4 leave
 module _ (f n a : ℕ) (en : n ≡ degree f) where
-  pub operand-judged : firstOf (operandOrder f (a ∷ [])) ≡ clear → Element f n a
-  operand-judged e =
-      let s = operand-passed f (a ∷ []) e in
-      let p = or-false (tooLarge (degree f) a) false (s .1) in
-      record { in-range = in-range f n en (s .0); small = rw en (not-too-large (degree f) a (p .0)) }
-
   pub operands-judged : (b : ℕ) → firstOf (operandOrder f (a ∷ b ∷ [])) ≡ clear → Element f n a × Element f n b
   operands-judged b e =
-      let s = operand-passed f (a ∷ b ∷ []) e in
+      let s = first-clear (degreeRule f) (elementOrder (degree f) (a ∷ b ∷ [])) e in
       let r : InRange f n = in-range f n en (s .0) in
-      let p = or-false (tooLarge (degree f) a) (anyTooLarge (degree f) (b ∷ [])) (s .1) in
-      let q = or-false (tooLarge (degree f) b) false (p .1) in (
-        record { in-range = r; small = rw en (not-too-large (degree f) a (p .0)) },
-        record { in-range = r; small = rw en (not-too-large (degree f) b (q .0)) },
-      )
+      let p = both-small (degree f) a b (s .1) in
+      (record { in-range = r; small = rw en (p .0) }, record { in-range = r; small = rw en (p .1) })
+
+  pub operand-judged : firstOf (operandOrder f (a ∷ [])) ≡ clear → Element f n a
+  operand-judged e = operands-judged a (operand-twice f a ∙ e) .0
 
 -- ---- conditions 2 and 3
 

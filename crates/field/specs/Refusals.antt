@@ -3,6 +3,7 @@
 --
 --   ..Rule         the rows 1 to 4
 --   ..Order        the orders of the calls
+--   elementOrder   4 alone
 --   operandOrder   their first part, 1 and 4, which building and searching begin with too
 --   fieldOrder     2 and 3, which every call that needs an accepted f tests together
 --
@@ -42,8 +43,11 @@ elementRule n values = record { number = 4; place = 0; applies = anyTooLarge n v
 
 -- ---- the orders
 
+abbrev pub elementOrder : (n : ℕ) → List ℕ → List Rule
+elementOrder n values = elementRule n values ∷ []
+
 abbrev pub operandOrder : (f : ℕ) → List ℕ → List Rule
-operandOrder f values = degreeRule f ∷ elementRule (degree f) values ∷ []
+operandOrder f values = degreeRule f ∷ elementOrder (degree f) values
 
 abbrev pub fieldOrder : (f : ℕ) → List Rule
 fieldOrder f = divisorRule f ∷ returnRule f ∷ []

@@ -1,16 +1,31 @@
 // The verdicts of the field calls' orders (document 01, "Refusal numbers"). A call judges its inputs first, and then works.
 ghost use mathlib.Core.Path.{_≡_};
 ghost use mathlib.Core.List.{[], _∷_};
+ghost use Prim.Native.Nat.{_<_};
 ghost use Rattle.gf2.specs.Spread.{SpreadTable};
 ghost use Rattle.refusals.specs.Verdicts.{firstOf};
 ghost use Rattle.refusals.specs.Answers.{checkedOf};
-ghost use Rattle.field.specs.Refusals.{operandOrder, traceOrder};
+ghost use Rattle.field.specs.Refusals.{elementOrder, operandOrder, traceOrder};
 use super::accepted::degree_outside;
 use super::accepted::field_verdict;
 use super::accepted::too_large;
 use gf2::degree_of;
 use refusals::Checked;
 use refusals::refused;
+
+// 4 for two numbers, which have to be elements of a field of degree n.
+pub fn elements_verdict(n: u32, a: u64, b: u64) -> Checked
+    requires { ⌜ n < 64 ⌝ }
+    ensures { λ r. ⌜ r ≡ checkedOf (firstOf (elementOrder n (a ∷ b ∷ []))) ⌝ }
+{
+    if too_large(n, a) {
+        return refused(4);
+    }
+    if too_large(n, b) {
+        return refused(4);
+    }
+    Checked::Done
+}
 
 // 1, then 4 for two operands.
 pub fn operands_verdict(f: u64, a: u64, b: u64) -> Checked
@@ -19,14 +34,7 @@ pub fn operands_verdict(f: u64, a: u64, b: u64) -> Checked
     if degree_outside(f) {
         return refused(1);
     }
-    let n = degree_of(f);
-    if too_large(n, a) {
-        return refused(4);
-    }
-    if too_large(n, b) {
-        return refused(4);
-    }
-    Checked::Done
+    elements_verdict(degree_of(f), a, b)
 }
 
 // 1, then 4 for one operand.

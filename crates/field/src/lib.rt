@@ -9,5 +9,6 @@ pub use calls::check;
 pub use calls::multiply;
 pub use calls::square;
 pub use calls::trace;
+pub use judging::elements_verdict;
 pub use judging::operand_verdict;
 pub use judging::operands_verdict;
