@@ -4,7 +4,8 @@
 --   judged-refused, judged-done   the two paths of such a call, for its answer
 --   left-refused, left-done       the same for what it was lent
 --   judged-clear, judged-verdict  what the two cases say of the verdict
---   then-refused, then-rest       a verdict in two parts: the first refuses; the first is clear, and the rest decides
+--   part-refuses, part-passes     an order in two parts: the first refuses; the first is clear, and the rest decides
+--   then-refused, then-rest       the same for what a function answers that judges in two parts
 --   value-report, checked-report  the numbers of the answer are those of the verdict
 --
 -- Assumes nothing.
@@ -42,12 +43,18 @@ judged-verdict (refuse k p) {c} {r} e d =
 -- ---- an order in two parts
 
 module _ (xs ys : List Rule) {c : Checked} (e : c ≡ checkedOf (firstOf xs)) where
+  pub part-refuses : {r : Refusal} → c ≡ checked.Refused r → firstOf (xs ++ ys) ≡ refuse (r .number) (r .place)
+  part-refuses {r} d = part-refused xs ys (r .number) (r .place) (judged-verdict (firstOf xs) e d)
+
+  pub part-passes : c ≡ checked.Done → firstOf (xs ++ ys) ≡ firstOf ys
+  part-passes d = part-clear xs ys (judged-clear (firstOf xs) e d)
+
   pub then-refused : {r : Refusal} → c ≡ checked.Refused r → checked.Refused r ≡ checkedOf (firstOf (xs ++ ys))
   unfolding answerOf
-  then-refused {r} d = rw (part-refused xs ys (r .number) (r .place) (judged-verdict (firstOf xs) e d))
+  then-refused {r} d = rw (part-refuses d)
 
   pub then-rest : {d : Checked} → c ≡ checked.Done → d ≡ checkedOf (firstOf ys) → d ≡ checkedOf (firstOf (xs ++ ys))
-  then-rest f g = g ∙ ap checkedOf (sym (part-clear xs ys (judged-clear (firstOf xs) e f)))
+  then-rest f g = g ∙ ap checkedOf (sym (part-passes f))
 
 -- ---- the answer
 

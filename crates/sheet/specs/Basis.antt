@@ -1,48 +1,31 @@
--- Laws that building and reading share: conditions 2, 3 and 5 by what the code finds, and a basis written as a sheet.
+-- Laws that building and reading share: what building a basis answers, and a basis written as a sheet.
 -- Assumes nothing.
-use mathlib.Core.Path.{_≡_, refl, ap, _∙_}
-use mathlib.Core.Bool.{Bool, true, false}
-use mathlib.Core.List.{List, [], _∷_, _++_}
+use mathlib.Core.Path.{_≡_, refl, sym, ap, _∙_}
+use mathlib.Core.Bool.{Bool, true, false, not}
+use mathlib.Core.List.{List, _∷_}
 use Prim.Native.Nat.{ℕ, zero, suc, _-_, _*_, _%_, _^_, _≤_}
 use native.Mathlib.Nat.{zero-add, one-mul}
 use native.Mathlib.Omega.{arith}
-use lib.ListN.{length, take, drop}
+use lib.ListN.{take}
 use lib.Pow.{shl-exact}
+use borrow.Author.Tests.{not-false}
 use Rattle.gf2.specs.Limit.{limit}
-use Rattle.refusals.specs.Verdicts.{clear, refuse, firstOf, andThen}
-use Rattle.field.specs.Refusals.{numberOf, fieldOrder}
-use Rattle.refusals.specs.Orders.{first-applies, first-passes, first-none, first-append}
-use Rattle.field.specs.Orders.{field-clear, field-refused}
+use Rattle.refusals.specs.Verdicts.{Rule, refuse, firstOf}
+use Rattle.refusals.specs.Orders.{first-applies, first-passes}
 use Rattle.normal.specs.Normal.{conjugates, normal, inverseRows, tableRows, padded}
 use Rattle.normal.specs.Basis.{basisRows, builtOf}
 use Rattle.normal.specs.Coordinates.{listed-length}
 use Rattle.normal.specs.Filling.{padded-at, padded-take}
 use Rattle.normal.specs.declared.basis.Basis.{Basis}
+use Rattle.normal.specs.declared.basis.Built.{Built}
 use Rattle.sheet.specs.Record.{recordsTo, tailOf, sheetBytes}
-use Rattle.sheet.specs.Orders.{normalRule, basisOrder}
+use Rattle.sheet.specs.Orders.{normalRule}
 use Rattle.sheet.specs.Bytes.{pasted}
-use Rattle.sheet.specs.Answers.{summaryWith, summaryOf}
-
--- ---- conditions 2, 3 and 5
-
-module _ (f n a k : ℕ) (e : k ≡ numberOf (firstOf (fieldOrder f))) where
-  pub basis-field : (k ≡ 0 → ⊥) → firstOf (basisOrder f n a) ≡ refuse k 0
-  unfolding andThen
-  basis-field z = first-append (fieldOrder f) (normalRule f n a ∷ []) ∙ rw (field-refused f k e z)
-
-  pub basis-tied : k ≡ 0 → normal f n a ≡ false → firstOf (basisOrder f n a) ≡ refuse 5 0
-  unfolding andThen
-  basis-tied z p =
-      first-append (fieldOrder f) (normalRule f n a ∷ []) ∙ rw (field-clear f k e z) (first-applies (normalRule f n a) [] (rw p))
-
-  pub basis-clear : k ≡ 0 → normal f n a ≡ true → firstOf (basisOrder f n a) ≡ clear
-  unfolding andThen
-  basis-clear z p =
-      first-append (fieldOrder f) (normalRule f n a ∷ []) ∙ rw (field-clear f k e z) (first-passes (normalRule f n a) [] (rw p) ∙ first-none)
+use Rattle.sheet.specs.Answers.{summaryWith, summaryOf, atFront}
 
 -- ---- what building a basis answers
 
-pub built-flag : (f n a : ℕ) → builtOf f n a .normal ≡ normal f n a
+built-flag : (f n a : ℕ) → builtOf f n a .normal ≡ normal f n a
 unfolding builtOf
 built-flag f n a = go (normal f n a) refl
   where
@@ -50,9 +33,24 @@ built-flag f n a = go (normal f n a) refl
     go true e = rw e
     go false e = rw e
 
-pub built-rows : (f n a : ℕ) → normal f n a ≡ true → builtOf f n a .basis ≡ basisRows f n a
+built-rows : (f n a : ℕ) → normal f n a ≡ true → builtOf f n a .basis ≡ basisRows f n a
 unfolding builtOf
 built-rows f n a e = rw e
+
+-- condition 5, by what building the basis found
+module _ (f n a : ℕ) {r : Built} (e : r ≡ builtOf f n a) where
+  flag : r .normal ≡ normal f n a
+  flag = ap (λ (x : Built). x .normal) e ∙ built-flag f n a
+
+  pub normal-refused : (rest : List Rule) → not (r .normal) ≡ true → firstOf (normalRule f n a ∷ rest) ≡ refuse 5 0
+  normal-refused rest t = first-applies (normalRule f n a) rest (rw (← flag) t)
+
+  module _ (t : not (r .normal) ≡ false) where
+    pub normal-passed : (rest : List Rule) → firstOf (normalRule f n a ∷ rest) ≡ firstOf rest
+    normal-passed rest = first-passes (normalRule f n a) rest (rw (← flag) t)
+
+    pub normal-rows : r .basis ≡ basisRows f n a
+    normal-rows = ap (λ (x : Built). x .basis) e ∙ built-rows f n a (sym flag ∙ not-false (r .normal) t)
 
 -- ---- a basis written as a sheet
 
@@ -69,13 +67,13 @@ power-word n h = shl-exact 1 n 64 (omega arith) (omega arith) ∙ one-mul (2 ^ n
 pub tail-word : (f n : ℕ) → n ≤ limit → f - 1 * 2 ^ n % 2 ^ 64 ≡ tailOf f n
 tail-word f n h = ap (λ (x : ℕ). f - x) (power-word n h)
 
-pub sheet-written : (f n a tail : ℕ) (b : Basis) (buffer : List ℕ) → b ≡ basisRows f n a → tail ≡ tailOf f n
-    → pasted buffer 0 (recordsTo n n tail (b .conjugates) (b .inverse) (b .table)) ≡ sheetBytes f n a ++ drop (length (sheetBytes f n a)) buffer
+pub sheet-written : (f n a : ℕ) (b : Basis) (buffer : List ℕ) → b ≡ basisRows f n a
+    → pasted buffer 0 (recordsTo n n (tailOf f n) (b .conjugates) (b .inverse) (b .table)) ≡ atFront (sheetBytes f n a) buffer
 unfolding sheetBytes pasted
-sheet-written f n a tail b buffer e et =
-    rw (e, et, recordsTo-padded n n (tailOf f n) (conjugates f n a) (inverseRows f n a) (tableRows f n a), zero-add)
+sheet-written f n a b buffer e =
+    rw (e, recordsTo-padded n n (tailOf f n) (conjugates f n a) (inverseRows f n a) (tableRows f n a), zero-add)
 
-pub summary-table : (f n a : ℕ) (b : Basis) → b ≡ basisRows f n a → summaryWith n (take n (b .table)) ≡ summaryOf f n a
+pub summary-table : (f n a : ℕ) (b : Basis) → b ≡ basisRows f n a → summaryWith f n a (take n (b .table)) ≡ summaryOf f n a
 unfolding summaryOf tableRows
 summary-table f n a b e =
     rw (e, padded-take (tableRows f n a) n (listed-length n _))

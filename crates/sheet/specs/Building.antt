@@ -1,62 +1,68 @@
--- The answers of build by its path through the conditions.
+-- Laws of build's order: what its parts leave of f, the element and the buffer where no condition applies; its answers.
 -- Assumes nothing.
-use mathlib.Core.Path.{_≡_, refl, ap, _∙_}
-use mathlib.Core.Bool.{true, false}
-use mathlib.Core.List.{List, [], _∷_, _++_}
+use mathlib.Core.Path.{_≡_, sym, ap, _∙_}
+use mathlib.Core.Bool.{false}
+use mathlib.Core.List.{List, [], _∷_}
 use Prim.Native.Nat.{ℕ, _*_, _≤_, _<_}
-use lib.ListN.{length, drop}
-use borrow.Author.Tests.{lt-ltb, le-ltb}
+use lib.ListN.{length}
+use borrow.Author.Tests.{lt-ltb, le-ltb, ltb-false}
 use Rattle.gf2.specs.Poly.{degree}
-use Rattle.field.specs.Accepted.{degreeOutside}
-use Rattle.refusals.specs.Verdicts.{clear, refuse, firstOf}
-use Rattle.field.specs.Refusals.{tooLarge, degreeRule, elementRule}
-use Rattle.refusals.specs.Orders.{first-applies, first-passes}
-use Rattle.field.specs.Orders.{any-first, any-next}
+use Rattle.refusals.specs.Verdicts.{Verdict, clear, refuse, firstOf}
+use Rattle.refusals.specs.Orders.{first-applies, first-passes, first-clear, parts-clear}
+use Rattle.refusals.specs.Answers.{left}
+use Rattle.refusals.specs.Answered.{answer-refused, left-refused}
+use Rattle.refusals.specs.declared.answer.Refusal.{Refusal}
+use Rattle.field.specs.Accepted.{Element}
+use Rattle.field.specs.Refusals.{operandOrder, fieldOrder}
+use Rattle.field.specs.Orders.{operand-judged}
 use Rattle.sheet.specs.Record.{recordSize, sheetBytes}
-use Rattle.sheet.specs.Orders.{roomRule, buildOrder, basisOrder}
-use Rattle.sheet.specs.Answers.{refusedAt, issuedOf, issuedReport, issued-report, summaryOf, buildAnswer, buildReport, written, builtBuffer}
+use Rattle.sheet.specs.Orders.{normalRule, roomRule, roomOrder, buildOrder}
+use Rattle.sheet.specs.Answers.{issuedOf, issuedReport, summaryOf, buildAnswer, buildReport, atFront, builtBuffer}
+use Rattle.sheet.specs.Answered.{issued-promised}
 use Rattle.sheet.specs.declared.answer.Summary.{Summary}
 use Rattle.sheet.specs.declared.answer.Issued.{Issued}
 use Rattle.sheet.specs.declared.answer.Issued.the-variants as issued
 
--- ---- the verdict
+-- ---- 6
 
-module _ (f a room : ℕ) where
-  pub build-degree : degreeOutside f ≡ true → firstOf (buildOrder f a room) ≡ refuse 1 0
-  build-degree e = first-applies (degreeRule f) _ e
+module _ (f n room : ℕ) where
+  pub room-short : room < recordSize * n → firstOf (roomRule n room ∷ fieldOrder f) ≡ refuse 6 0
+  room-short h = first-applies (roomRule n room) _ (lt-ltb room (recordSize * n) h)
 
-  module _ (e : degreeOutside f ≡ false) where
-    pub build-element : tooLarge (degree f) a ≡ true → firstOf (buildOrder f a room) ≡ refuse 4 0
-    build-element p =
-        first-passes (degreeRule f) _ e ∙ first-applies (elementRule (degree f) (a ∷ [])) _ (any-first (degree f) a [] p)
+  pub room-enough : recordSize * n ≤ room → firstOf (roomRule n room ∷ fieldOrder f) ≡ firstOf (fieldOrder f)
+  room-enough h = first-passes (roomRule n room) _ (le-ltb room (recordSize * n) h)
 
-    module _ (p : tooLarge (degree f) a ≡ false) where
-      past-element : firstOf (buildOrder f a room) ≡ firstOf (roomRule (degree f) room ∷ basisOrder f (degree f) a)
-      past-element =
-          first-passes (degreeRule f) _ e ∙ first-passes (elementRule (degree f) (a ∷ [])) _ (any-next (degree f) a [] p refl)
+-- ---- 1, 4, 6, 2 and 3
 
-      pub build-room : room < recordSize * degree f → firstOf (buildOrder f a room) ≡ refuse 6 0
-      build-room h = past-element ∙ first-applies (roomRule (degree f) room) _ (lt-ltb room (recordSize * degree f) h)
-
-      pub build-basis : recordSize * degree f ≤ room → firstOf (buildOrder f a room) ≡ firstOf (basisOrder f (degree f) a)
-      build-basis h = past-element ∙ first-passes (roomRule (degree f) room) _ (le-ltb room (recordSize * degree f) h)
+pub room-judged : (f n a room : ℕ) → n ≡ degree f → firstOf (roomOrder f a room) ≡ clear → Element f n a × (recordSize * n ≤ room)
+room-judged f n a room en e =
+    let s = parts-clear (operandOrder f (a ∷ [])) (roomRule (degree f) room ∷ fieldOrder f) e in
+    let r = first-clear (roomRule (degree f) room) (fieldOrder f) (s .1) in
+    (operand-judged f n a en (s .0), rw en (ltb-false room (recordSize * degree f) (r .0)))
 
 -- ---- the answer, its report, and the buffer
 
 module _ (f a : ℕ) (buffer : List ℕ) where
-  pub build-refused : (k : ℕ) {r : Issued} → r ≡ refusedAt k 0 → firstOf (buildOrder f a (length buffer)) ≡ refuse k 0
-      → (r ≡ buildAnswer f a (length buffer)) × ((issuedReport r ≡ buildReport f a (length buffer)) × (buffer ≡ builtBuffer f a buffer))
-  unfolding buildAnswer buildReport builtBuffer issuedOf written
-  build-refused k {r} e p =
+  pub build-refused : {r : Refusal} → firstOf (buildOrder f a (length buffer)) ≡ refuse (r .number) (r .place)
+      → (issued.Refused r ≡ buildAnswer f a (length buffer)) × ((issuedReport (issued.Refused r) ≡ buildReport f a (length buffer)) × (buffer ≡ builtBuffer f a buffer))
+  unfolding buildAnswer buildReport builtBuffer
+  build-refused {r} e =
       let s : Summary = summaryOf f (degree f) a in
-      let q : r ≡ issuedOf (firstOf (buildOrder f a (length buffer))) s = e ∙ rw p in
-      (q, (ap issuedReport q ∙ issued-report (firstOf (buildOrder f a (length buffer))) s, rw p))
+      let p = issued-promised (firstOf (buildOrder f a (length buffer))) s (answer-refused issued.Refused (issued.Done s) {r = r} e) in
+      (p .0, (p .1, left-refused _ buffer e))
 
-  pub build-done : {s : Summary} {last : List ℕ} → s ≡ summaryOf f (degree f) a → last ≡ sheetBytes f (degree f) a ++ drop (length (sheetBytes f (degree f) a)) buffer
-      → firstOf (buildOrder f a (length buffer)) ≡ clear
-      → (issued.Done s ≡ buildAnswer f a (length buffer)) × ((issuedReport (issued.Done s) ≡ buildReport f a (length buffer)) × (last ≡ builtBuffer f a buffer))
-  unfolding buildAnswer buildReport builtBuffer issuedOf written
-  build-done {s} {last} es el p =
-      let t : Summary = summaryOf f (degree f) a in
-      let q : issued.Done s ≡ issuedOf (firstOf (buildOrder f a (length buffer))) t = ap issued.Done es ∙ rw p in
-      (q, (ap issuedReport q ∙ issued-report (firstOf (buildOrder f a (length buffer))) t, el ∙ rw p))
+  -- condition 5 decides
+  pub build-rest : (n : ℕ) {r : Issued} {last : List ℕ} → n ≡ degree f
+      → firstOf (buildOrder f a (length buffer)) ≡ firstOf (normalRule f (degree f) a ∷ [])
+      → r ≡ issuedOf (firstOf (normalRule f n a ∷ [])) (summaryOf f n a)
+      → last ≡ left (firstOf (normalRule f n a ∷ [])) (atFront (sheetBytes f n a) buffer) buffer
+      → (r ≡ buildAnswer f a (length buffer)) × ((issuedReport r ≡ buildReport f a (length buffer)) × (last ≡ builtBuffer f a buffer))
+  unfolding buildAnswer buildReport builtBuffer
+  build-rest n {r} {last} en e er el =
+      let v : Verdict = firstOf (buildOrder f a (length buffer)) in
+      let q : r ≡ issuedOf v (summaryOf f (degree f) a) =
+      er ∙ ap (λ (k : ℕ). issuedOf (firstOf (normalRule f k a ∷ [])) (summaryOf f k a)) en ∙ ap (λ (w : Verdict). issuedOf w (summaryOf f (degree f) a)) (sym e) in
+      let p = issued-promised v (summaryOf f (degree f) a) q in
+      let w : last ≡ left v (atFront (sheetBytes f (degree f) a) buffer) buffer =
+      el ∙ ap (λ (k : ℕ). left (firstOf (normalRule f k a ∷ [])) (atFront (sheetBytes f k a) buffer) buffer) en ∙ ap (λ (w : Verdict). left w (atFront (sheetBytes f (degree f) a) buffer) buffer) (sym e) in
+      (p .0, (p .1, w))

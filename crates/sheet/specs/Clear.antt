@@ -17,25 +17,9 @@ use Rattle.gf2.specs.Truth.{or-false}
 use Rattle.field.specs.Orders.{not-too-large}
 use Rattle.rows.specs.Rows.{Matrix}
 use Rattle.normal.specs.Coordinates.{listed-at, listed-length, rows-matrix}
-use Rattle.sheet.specs.Record.{recordCount, wordSize, tableAt, fieldIn, rowsIn, tailIn, conjugateIn, inverseIn, tableIn, polynomialIn}
-use Rattle.sheet.specs.Orders.{misplaced, oversized, recordRules, shapeOrder, lengthRule}
-use Rattle.sheet.specs.Verdicts.{Numbered, none, more, refusalOf, numbered-clear}
-use Rattle.sheet.specs.Shape.{Sized, good-length}
-
--- ---- the shape's rules have numbers
-
-recordRules-numbered : (sheet : List ℕ) (i k : ℕ) → Numbered (recordRules sheet i k)
-unfolding recordRules
-recordRules-numbered sheet i zero = none
-recordRules-numbered sheet i (suc k) =
-    more {r = record { number = 8; place = i; applies = misplaced sheet i }} (omega arith)
-    (more {r = record { number = 9; place = i; applies = oversized sheet i }} (omega arith) (recordRules-numbered sheet (i + 1) k))
-
-pub shape-numbered : (sheet : List ℕ) → Numbered (shapeOrder sheet)
-shape-numbered sheet = more {r = lengthRule sheet} (omega arith) (recordRules-numbered sheet 0 (recordCount sheet))
-
-pub shape-clear : (sheet : List ℕ) → refusalOf (firstOf (shapeOrder sheet)) .number ≡ 0 → firstOf (shapeOrder sheet) ≡ clear
-shape-clear sheet = numbered-clear (shapeOrder sheet) (shape-numbered sheet)
+use Rattle.sheet.specs.Record.{recordCount, wordSize, tableAt, columnIn, rowsIn, tailIn, conjugateIn, inverseIn, tableIn, polynomialIn}
+use Rattle.sheet.specs.Orders.{misplaced, oversized, recordRules, shapeOrder, lengthRule, Shaped}
+use Rattle.sheet.specs.Shape.{good-length}
 
 -- ---- what a clear shape says
 
@@ -53,11 +37,6 @@ records-clear sheet (suc k) i e j h =
     rw z at (records-clear sheet k (i + 1) (b .1) m (omega arith)))
     (order j 1)
 
-pub record Shaped (sheet : List ℕ) : Type 0 where
-  pub size : Sized sheet
-  pub places : (i : ℕ) → i < recordCount sheet → misplaced sheet i ≡ false
-  pub small : (i : ℕ) → i < recordCount sheet → oversized sheet i ≡ false
-
 pub clear-shaped : (sheet : List ℕ) → firstOf (shapeOrder sheet) ≡ clear → Shaped sheet
 clear-shaped sheet e =
     let a = first-clear (lengthRule sheet) (recordRules sheet 0 (recordCount sheet)) e in
@@ -70,11 +49,11 @@ clear-shaped sheet e =
     }
 
 module _ (sheet : List ℕ) (s : Shaped sheet) where
-  -- the four numbers of a record
-  pub fields-lt : (i : ℕ) → i < recordCount sheet
+  -- the four numbers of a record that are below 2 ^ n
+  pub columns-lt : (i : ℕ) → i < recordCount sheet
       → (tailIn sheet i < 2 ^ recordCount sheet) × (conjugateIn sheet i < 2 ^ recordCount sheet) × (inverseIn sheet i < 2 ^ recordCount sheet) × (tableIn sheet i < 2 ^ recordCount sheet)
   unfolding oversized
-  fields-lt i h =
+  columns-lt i h =
       let n : ℕ = recordCount sheet in
       let a = or-false (tooLarge n (tailIn sheet i) || tooLarge n (conjugateIn sheet i) || tooLarge n (inverseIn sheet i)) (tooLarge n (tableIn sheet i)) (s .small i h) in
       let b = or-false (tooLarge n (tailIn sheet i) || tooLarge n (conjugateIn sheet i)) (tooLarge n (inverseIn sheet i)) (a .0) in
@@ -85,15 +64,15 @@ module _ (sheet : List ℕ) (s : Shaped sheet) where
   pub polynomial-degree : Degree (polynomialIn sheet) (recordCount sheet)
   polynomial-degree =
       let h : 2 ≤ recordCount sheet = s .size .two in
-      let t = fields-lt 0 (omega arith) .0 in
+      let t = columns-lt 0 (omega arith) .0 in
       record { low = omega arith; high = rw pow-next (omega arith) }
 
   pub rowsIn-length : (at : ℕ) → length (rowsIn sheet at) ≡ recordCount sheet
   unfolding rowsIn
-  rowsIn-length at = listed-length (recordCount sheet) (λ i. fieldIn sheet i at wordSize)
+  rowsIn-length at = listed-length (recordCount sheet) (λ i. columnIn sheet i at wordSize)
 
   pub table-matrix : Matrix (rowsIn sheet tableAt) (recordCount sheet)
   unfolding rowsIn
   table-matrix =
       rows-matrix (rowsIn sheet tableAt) (recordCount sheet) (rowsIn-length tableAt)
-      (λ i h. rw (listed-at (recordCount sheet) (λ i. fieldIn sheet i tableAt wordSize) i h) (fields-lt i h .3))
+      (λ i h. rw (listed-at (recordCount sheet) (λ i. columnIn sheet i tableAt wordSize) i h) (columns-lt i h .3))

@@ -4,27 +4,24 @@
 --
 -- Assumes nothing.
 use mathlib.Core.Path.{_≡_, refl, sym, ap, ap₂, _∙_}
-use mathlib.Core.Bool.{Bool, true, false, cond, _||_}
+use mathlib.Core.Bool.{Bool, true, false, not, cond, _||_}
 use mathlib.Core.List.{List, [], _∷_, _++_, map, append-nil}
 use Prim.Native.Nat.{ℕ, zero, suc, _+_, _^_, _≤_, _<_}
 use native.Mathlib.Nat.{le-of-suc-le-suc, not-suc-le-zero}
 use native.Mathlib.Numerals.{add-one}
 use native.Mathlib.Omega.{arith}
+use lib.Dec.{ltb, eqb}
 use lib.ListN.{length, getD, set, take, drop, drop-of-length-le, length-append, length-drop}
 use lib.Seq.{drop-cons, set-at, getD-at, take-suc, append-snoc, take-all}
-use borrow.Author.Tests.{lt-ltb, le-ltb, eq-eqb, ne-eqb}
+use borrow.Author.Tests.{lt-ltb, le-ltb, eq-eqb, ne-eqb, eqb-true, not-false}
+use Rattle.gf2.specs.Truth.{or-false}
 use Rattle.refusals.specs.Verdicts.{clear, refuse, firstOf}
+use Rattle.refusals.specs.Orders.{first-applies, first-passes, first-clear, parts-clear}
 use Rattle.field.specs.Refusals.{tooLarge}
-use Rattle.refusals.specs.Answers.{checkedOf, checkedReport}
-use Rattle.refusals.specs.Answered.{checked-report}
-use Rattle.refusals.specs.Orders.{first-applies, first-passes, part-clear}
 use Rattle.field.specs.Orders.{not-too-large}
-use Rattle.refusals.specs.declared.answer.Refusal.{Refusal}
-use Rattle.refusals.specs.declared.answer.Checked.{Checked}
-use Rattle.refusals.specs.declared.answer.Checked.the-variants as checked
 use Rattle.sheet.specs.Record.{recordCount}
-use Rattle.sheet.specs.Orders.{listLimit, listRule, valueRules, shapeOrder, listOrder}
-use Rattle.sheet.specs.Answers.{convertedBy, listAnswer, listReport, listWritten, convertedList}
+use Rattle.sheet.specs.Orders.{listLimit, listRule, valueRules, shapeOrder, listOrder, Shaped, Listed}
+use Rattle.sheet.specs.Clear.{clear-shaped}
 
 unfoldable pub firstLarge : (n i : ℕ) → List ℕ → ℕ
 firstLarge n i [] = i
@@ -57,39 +54,44 @@ large-verdict n i (v ∷ vs) h = go (tooLarge n v) refl (large-verdict n (i + 1)
     go true e ih = rw e
     go false e ih = let l : firstLarge n (i + 1) vs < i + suc (length vs) = rw e at h in rw e (ih (omega arith))
 
-pub small-verdict : (n i : ℕ) (values : List ℕ) → i + length values ≤ firstLarge n i values
-    → (firstOf (valueRules n i values) ≡ clear) × ((j : ℕ) → j < length values → getD values j 0 < 2 ^ n)
+pub small-verdict : (n i : ℕ) (values : List ℕ) → i + length values ≤ firstLarge n i values → firstOf (valueRules n i values) ≡ clear
 unfolding firstLarge valueRules firstOf
-small-verdict n i [] h = (refl, λ j l. absurd (not-suc-le-zero l))
+small-verdict n i [] h = refl
 small-verdict n i (v ∷ vs) h = go (tooLarge n v) refl (small-verdict n (i + 1) vs)
   where
-    at : tooLarge n v ≡ false → ((j : ℕ) → j < length vs → getD vs j 0 < 2 ^ n) → (j : ℕ) → j < length (v ∷ vs) → getD (v ∷ vs) j 0 < 2 ^ n
-    at e g zero l = not-too-large n v e
-    at e g (suc j) l = g j (le-of-suc-le-suc l)
-
-    go : (b : Bool) → tooLarge n v ≡ b → (i + 1 + length vs ≤ firstLarge n (i + 1) vs → (firstOf (valueRules n (i + 1) vs) ≡ clear) × ((j : ℕ) → j < length vs → getD vs j 0 < 2 ^ n))
-        → (firstOf (valueRules n i (v ∷ vs)) ≡ clear) × ((j : ℕ) → j < length (v ∷ vs) → getD (v ∷ vs) j 0 < 2 ^ n)
+    go : (b : Bool) → tooLarge n v ≡ b → (i + 1 + length vs ≤ firstLarge n (i + 1) vs → firstOf (valueRules n (i + 1) vs) ≡ clear) → firstOf (valueRules n i (v ∷ vs)) ≡ clear
     go true e ih = let l : i + suc (length vs) ≤ i = rw e at h in absurd (omega arith)
-    go false e ih =
-        let l : i + suc (length vs) ≤ firstLarge n (i + 1) vs = rw e at h in
-        let s = ih (omega arith) in
-        (rw e (s .0), at e (s .1))
+    go false e ih = let l : i + suc (length vs) ≤ firstLarge n (i + 1) vs = rw e at h in rw e (ih (omega arith))
 
--- ---- the verdict of a list
+-- ---- 11, then 4
 
-module _ (sheet from : List ℕ) (into : ℕ) (c : firstOf (shapeOrder sheet) ≡ clear) where
-  past-shape : firstOf (listOrder sheet from into) ≡ firstOf (listRule (length from) into ∷ valueRules (recordCount sheet) 0 from)
-  past-shape = part-clear (shapeOrder sheet) _ c
-
-  pub lengths-differ : (length from ≡ into → ⊥) → firstOf (listOrder sheet from into) ≡ refuse 11 0
-  lengths-differ e = past-shape ∙ first-applies (listRule (length from) into) _ (rw (ne-eqb (length from) into e))
+module _ (n : ℕ) (from : List ℕ) (into : ℕ) where
+  pub lengths-differ : (length from ≡ into → ⊥) → firstOf (listRule (length from) into ∷ valueRules n 0 from) ≡ refuse 11 0
+  lengths-differ e = first-applies (listRule (length from) into) _ (rw (ne-eqb (length from) into e))
 
   module _ (e : length from ≡ into) where
-    pub list-too-long : listLimit < length from → firstOf (listOrder sheet from into) ≡ refuse 11 0
-    list-too-long h = past-shape ∙ first-applies (listRule (length from) into) _ (rw (eq-eqb (length from) into e, lt-ltb listLimit (length from) h))
+    pub list-too-long : listLimit < length from → firstOf (listRule (length from) into ∷ valueRules n 0 from) ≡ refuse 11 0
+    list-too-long h = first-applies (listRule (length from) into) _ (rw (eq-eqb (length from) into e, lt-ltb listLimit (length from) h))
 
-    pub list-values : length from ≤ listLimit → firstOf (listOrder sheet from into) ≡ firstOf (valueRules (recordCount sheet) 0 from)
-    list-values h = past-shape ∙ first-passes (listRule (length from) into) _ (rw (eq-eqb (length from) into e, le-ltb listLimit (length from) h))
+    pub list-values : length from ≤ listLimit → firstOf (listRule (length from) into ∷ valueRules n 0 from) ≡ firstOf (valueRules n 0 from)
+    list-values h = first-passes (listRule (length from) into) _ (rw (eq-eqb (length from) into e, le-ltb listLimit (length from) h))
+
+-- what conditions 11 and 4 leave
+values-small : (n i : ℕ) (values : List ℕ) → firstOf (valueRules n i values) ≡ clear → (j : ℕ) → j < length values → getD values j 0 < 2 ^ n
+unfolding valueRules
+values-small n i [] e j l = absurd (not-suc-le-zero l)
+values-small n i (v ∷ vs) e zero l = not-too-large n v (first-clear (record { number = 4; place = i; applies = tooLarge n v }) _ e .0)
+values-small n i (v ∷ vs) e (suc j) l =
+    values-small n (i + 1) vs (first-clear (record { number = 4; place = i; applies = tooLarge n v }) _ e .1) j (le-of-suc-le-suc l)
+
+pub list-judged : (sheet from : List ℕ) (into : ℕ) → firstOf (listOrder sheet from into) ≡ clear → Shaped sheet × Listed (recordCount sheet) from into
+list-judged sheet from into e =
+    let s = parts-clear (shapeOrder sheet) (listRule (length from) into ∷ valueRules (recordCount sheet) 0 from) e in
+    let l = first-clear (listRule (length from) into) (valueRules (recordCount sheet) 0 from) (s .1) in
+    let d = or-false (not (eqb (length from) into)) (ltb listLimit (length from)) (l .0) in (
+      clear-shaped sheet (s .0),
+      record { lengths = eqb-true (length from) into (not-false (eqb (length from) into) (d .0)); values = values-small (recordCount sheet) 0 from (l .1) },
+    )
 
 -- ---- filling the list
 
@@ -140,20 +142,3 @@ pub map-agree : (convert other : ℕ → ℕ) (xs : List ℕ) → ((i : ℕ) →
 map-agree convert other [] h = refl
 map-agree convert other (x ∷ xs) h =
     ap₂ {C = List ℕ} (λ (y : ℕ) (l : List ℕ). y ∷ l) (h 0 (omega arith)) (map-agree convert other xs (λ i l. h (suc i) (omega arith)))
-
--- ---- the answer, its report and the list
-
-module _ (sheet : List ℕ) (at : ℕ) (from into : List ℕ) where
-  pub list-refused : (k p : ℕ) {r : Refusal} → r .number ≡ k → r .place ≡ p → firstOf (listOrder sheet from (length into)) ≡ refuse k p
-      → (checked.Refused r ≡ listAnswer sheet from (length into)) × ((checkedReport (checked.Refused r) ≡ listReport sheet from (length into)) × (into ≡ convertedList sheet at from into))
-  unfolding listAnswer listReport convertedList checkedOf listWritten
-  list-refused k p {r} ek ep e =
-      let q : checked.Refused r ≡ checkedOf (firstOf (listOrder sheet from (length into))) = rw (e, ← ek, ← ep) in
-      (q, (ap checkedReport q ∙ checked-report (firstOf (listOrder sheet from (length into))), rw e))
-
-  pub list-done : {last : List ℕ} → last ≡ map (convertedBy sheet at) from → firstOf (listOrder sheet from (length into)) ≡ clear
-      → (checked.Done ≡ listAnswer sheet from (length into)) × ((checkedReport checked.Done ≡ listReport sheet from (length into)) × (last ≡ convertedList sheet at from into))
-  unfolding listAnswer listReport convertedList checkedOf listWritten
-  list-done {last} el e =
-      let q : checked.Done ≡ checkedOf (firstOf (listOrder sheet from (length into))) = rw e in
-      (q, (ap checkedReport q ∙ checked-report (firstOf (listOrder sheet from (length into))), rw e el))

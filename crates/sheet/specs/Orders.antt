@@ -1,15 +1,21 @@
 -- The refusals of the calls on sheets (document 01, "Refusal numbers"): the rows 5 to 11 of the table, and the orders of build, reading,
 -- converting and multiplying. Definitions alone.
+--
+--   ..Rule, ..Rules   the rows of the table; those that go record by record, or value by value
+--   ..Order           the orders of the calls, and parts of them
+--   Sized, Shaped     what conditions 7 to 9 leave of a sheet where none of them applies; `Listed`: 11 and 4 of a list
+--
 -- Assumes nothing.
+use mathlib.Core.Path.{_≡_}
 use mathlib.Core.Bool.{Bool, true, false, not, _&&_, _||_}
 use mathlib.Core.List.{List, [], _∷_, _++_}
-use Prim.Native.Nat.{ℕ, zero, suc, _+_, _*_, _/_, _%_}
+use Prim.Native.Nat.{ℕ, zero, suc, _+_, _*_, _/_, _%_, _^_, _≤_, _<_}
 use lib.Dec.{ltb, eqb}
-use lib.ListN.{length}
+use lib.ListN.{length, getD}
 use Rattle.gf2.specs.Limit.{limit}
 use Rattle.gf2.specs.Poly.{degree}
 use Rattle.refusals.specs.Verdicts.{Rule}
-use Rattle.field.specs.Refusals.{degreeRule, elementRule, tooLarge, fieldOrder}
+use Rattle.field.specs.Refusals.{tooLarge, elementOrder, operandOrder, fieldOrder}
 use Rattle.normal.specs.Normal.{normal}
 use Rattle.sheet.specs.Record.{recordSize, recordCount, degreeIn, rowIn, tailIn, conjugateIn, inverseIn, tableIn, recordAt, polynomialIn, sheetBytes}
 
@@ -76,31 +82,72 @@ valueRules n i (v ∷ vs) = record { number = 4; place = i; applies = tooLarge n
 
 -- ---- the orders
 
+-- all of build's but the last, which the basis decides
+abbrev pub roomOrder : (f a room : ℕ) → List Rule
+roomOrder f a room = operandOrder f (a ∷ []) ++ (roomRule (degree f) room ∷ fieldOrder f)
+
 -- "Build: 1, 4, 6, 2, 3, 5."
 abbrev pub buildOrder : (f a room : ℕ) → List Rule
-buildOrder f a room =
-    (degreeRule f ∷ elementRule (degree f) (a ∷ []) ∷ roomRule (degree f) room ∷ fieldOrder f) ++ (normalRule f (degree f) a ∷ [])
+buildOrder f a room = roomOrder f a room ++ (normalRule f (degree f) a ∷ [])
 
 -- "7, then records from 0 upward with 8 before 9 in each"
 abbrev pub shapeOrder : (sheet : List ℕ) → List Rule
 shapeOrder sheet = lengthRule sheet ∷ recordRules sheet 0 (recordCount sheet)
 
--- "Reading a sheet: 7, 8 and 9 as above, then 2, 3, 5 for its polynomial and its record 0 conjugate, then 10."
+-- "2, 3, 5 for its polynomial and its record 0 conjugate"
 abbrev pub basisOrder : (f n a : ℕ) → List Rule
 basisOrder f n a = fieldOrder f ++ (normalRule f n a ∷ [])
 
 abbrev pub rebuiltFrom : (sheet : List ℕ) → List ℕ
 rebuiltFrom sheet = sheetBytes (polynomialIn sheet) (recordCount sheet) (conjugateIn sheet 0)
 
+-- the same, "then 10"
+abbrev pub rebuildOrder : (sheet : List ℕ) → List Rule
+rebuildOrder sheet =
+    basisOrder (polynomialIn sheet) (recordCount sheet) (conjugateIn sheet 0) ++ differRules sheet (rebuiltFrom sheet) 0 (recordCount sheet)
+
+-- "Reading a sheet: 7, 8 and 9 as above, then 2, 3, 5 .., then 10."
 abbrev pub readOrder : (sheet : List ℕ) → List Rule
-readOrder sheet =
-    shapeOrder sheet
-    ++ (basisOrder (polynomialIn sheet) (recordCount sheet) (conjugateIn sheet 0) ++ differRules sheet (rebuiltFrom sheet) 0 (recordCount sheet))
+readOrder sheet = shapeOrder sheet ++ rebuildOrder sheet
 
 -- "Convert one, multiply through the sheet: 7, then records .., then 4."
 abbrev pub valueOrder : (sheet values : List ℕ) → List Rule
-valueOrder sheet values = shapeOrder sheet ++ (elementRule (recordCount sheet) values ∷ [])
+valueOrder sheet values = shapeOrder sheet ++ elementOrder (recordCount sheet) values
+
+abbrev pub polynomialOrder : (sheet : List ℕ) (coordinates : ℕ) → List Rule
+polynomialOrder sheet coordinates = valueOrder sheet (coordinates ∷ [])
+
+abbrev pub normalOrder : (sheet : List ℕ) (element : ℕ) → List Rule
+normalOrder sheet element = valueOrder sheet (element ∷ [])
+
+abbrev pub timesOrder : (sheet : List ℕ) (a b : ℕ) → List Rule
+timesOrder sheet a b = valueOrder sheet (a ∷ b ∷ [])
 
 -- "Convert a list: the same, with 11 before 4."
 abbrev pub listOrder : (sheet from : List ℕ) (into : ℕ) → List Rule
 listOrder sheet from into = shapeOrder sheet ++ (listRule (length from) into ∷ valueRules (recordCount sheet) 0 from)
+
+abbrev pub polynomialListOrder : (sheet from : List ℕ) (into : ℕ) → List Rule
+polynomialListOrder sheet from into = listOrder sheet from into
+
+abbrev pub normalListOrder : (sheet from : List ℕ) (into : ℕ) → List Rule
+normalListOrder sheet from into = listOrder sheet from into
+
+-- ---- what is left where no condition applies
+
+-- after 7
+pub record Sized (sheet : List ℕ) : Type 0 where
+  pub whole : length sheet ≡ recordSize * recordCount sheet
+  pub two : 2 ≤ recordCount sheet
+  pub most : recordCount sheet ≤ limit
+
+-- after 7, 8 and 9
+pub record Shaped (sheet : List ℕ) : Type 0 where
+  pub size : Sized sheet
+  pub places : (i : ℕ) → i < recordCount sheet → misplaced sheet i ≡ false
+  pub small : (i : ℕ) → i < recordCount sheet → oversized sheet i ≡ false
+
+-- after 11 and 4, for a list that is converted into one of a given length
+pub record Listed (n : ℕ) (from : List ℕ) (into : ℕ) : Type 0 where
+  pub lengths : length from ≡ into
+  pub values : (i : ℕ) → i < length from → getD from i 0 < 2 ^ n

@@ -1,10 +1,11 @@
--- Reading: the first record that differs from the one rebuilt decides condition 10; the answers by their path through the conditions.
+-- Reading: the first record that differs from the one rebuilt decides condition 10.
 --
+--   Rebuilt sheet f n a               what a sheet of good shape is rebuilt from: f and n are its polynomial and degree, a its record 0 conjugate
 --   differs sheet rebuilt i           record i of the two differs
 --   firstDiffering sheet rebuilt i k  the first of k records from i on that differs; past the last where none does
 --
 -- Assumes nothing.
-use mathlib.Core.Path.{_≡_, refl, ap, _∙_}
+use mathlib.Core.Path.{_≡_, refl, _∙_}
 use mathlib.Core.Bool.{Bool, true, false, not, cond}
 use mathlib.Core.List.{List, [], _++_}
 use Prim.Native.Nat.{ℕ, zero, suc, _+_, _-_, _*_, _≤_, _<_}
@@ -13,15 +14,15 @@ use native.Mathlib.Omega.{arith}
 use lib.ListN.{length, getD, drop, drop-of-length-le, length-drop}
 use lib.Seq.{drop-cons, getD-take, getD-drop, take-append-le, drop-append-le, length-take-le}
 use borrow.Author.Tests.{eq-eqb, ne-eqb}
-use Rattle.refusals.specs.Verdicts.{Verdict, clear, refuse, firstOf}
-use Rattle.refusals.specs.declared.answer.Refusal.{Refusal}
+use Rattle.refusals.specs.Verdicts.{clear, refuse, firstOf}
 use Rattle.sheet.specs.Record.{recordSize, recordCount, recordAt, conjugateIn, polynomialIn}
-use Rattle.sheet.specs.Orders.{same, differRules, shapeOrder, basisOrder, rebuiltFrom, readOrder}
-use Rattle.sheet.specs.Answers.{issuedOf, issuedReport, issued-report, summaryOf, readAnswer, readReport}
-use Rattle.refusals.specs.Orders.{part-refused, part-clear}
-use Rattle.sheet.specs.declared.answer.Summary.{Summary}
-use Rattle.sheet.specs.declared.answer.Issued.{Issued}
-use Rattle.sheet.specs.declared.answer.Issued.the-variants as issued
+use Rattle.sheet.specs.Orders.{same, differRules, Shaped}
+
+pub record Rebuilt (sheet : List ℕ) (f n a : ℕ) : Type 0 where
+  pub shaped : Shaped sheet
+  pub polynomial : f ≡ polynomialIn sheet
+  pub count : n ≡ recordCount sheet
+  pub conjugate : a ≡ conjugateIn sheet 0
 
 unfoldable pub differs : (sheet rebuilt : List ℕ) (i : ℕ) → Bool
 differs sheet rebuilt i = not (same (recordAt sheet i) (recordAt rebuilt i))
@@ -103,38 +104,3 @@ same-verdict sheet rebuilt i (suc k) h = go (differs sheet rebuilt i) refl (same
         → firstOf (differRules sheet rebuilt i (suc k)) ≡ clear
     go true e ih = let l : i + suc k ≤ i = rw e at h in absurd (omega arith)
     go false e ih = let l : i + suc k ≤ firstDiffering sheet rebuilt (i + 1) k = rw e at h in rw e (ih (omega arith))
-
--- ---- the verdict of reading
-
-module _ (sheet : List ℕ) (c : firstOf (shapeOrder sheet) ≡ clear) where
-  abbrev found : Verdict
-  found = firstOf (basisOrder (polynomialIn sheet) (recordCount sheet) (conjugateIn sheet 0))
-
-  pub read-basis : (k p : ℕ) → found ≡ refuse k p → firstOf (readOrder sheet) ≡ refuse k p
-  read-basis k p e =
-      part-clear (shapeOrder sheet) _ c
-      ∙ part-refused (basisOrder (polynomialIn sheet) (recordCount sheet) (conjugateIn sheet 0)) (differRules sheet (rebuiltFrom sheet) 0 (recordCount sheet)) k p e
-
-  pub read-records : found ≡ clear → firstOf (readOrder sheet) ≡ firstOf (differRules sheet (rebuiltFrom sheet) 0 (recordCount sheet))
-  read-records e =
-      part-clear (shapeOrder sheet) _ c
-      ∙ part-clear (basisOrder (polynomialIn sheet) (recordCount sheet) (conjugateIn sheet 0)) (differRules sheet (rebuiltFrom sheet) 0 (recordCount sheet)) e
-
--- ---- the answer and its report
-
-module _ (sheet : List ℕ) where
-  pub read-refused : (k p : ℕ) {r : Issued} {x : Refusal} → r ≡ issued.Refused x → x .number ≡ k → x .place ≡ p → firstOf (readOrder sheet) ≡ refuse k p
-      → (r ≡ readAnswer sheet) × (issuedReport r ≡ readReport sheet)
-  unfolding readAnswer readReport issuedOf
-  read-refused k p {r} {x} er ek ep e =
-      let s : Summary = summaryOf (polynomialIn sheet) (recordCount sheet) (conjugateIn sheet 0) in
-      let q : r ≡ issuedOf (firstOf (readOrder sheet)) s = er ∙ rw (e, ← ek, ← ep) in
-      (q, ap issuedReport q ∙ issued-report (firstOf (readOrder sheet)) s)
-
-  pub read-done : {s : Summary} → s ≡ summaryOf (polynomialIn sheet) (recordCount sheet) (conjugateIn sheet 0) → firstOf (readOrder sheet) ≡ clear
-      → (issued.Done s ≡ readAnswer sheet) × (issuedReport (issued.Done s) ≡ readReport sheet)
-  unfolding readAnswer readReport issuedOf
-  read-done {s} es e =
-      let t : Summary = summaryOf (polynomialIn sheet) (recordCount sheet) (conjugateIn sheet 0) in
-      let q : issued.Done s ≡ issuedOf (firstOf (readOrder sheet)) t = rw (e, es) in
-      (q, ap issuedReport q ∙ issued-report (firstOf (readOrder sheet)) t)

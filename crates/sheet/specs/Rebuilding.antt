@@ -1,68 +1,60 @@
--- Rebuilding a sheet that has its shape: its polynomial and its record 0 conjugate as the code computes them, and the sheet that they give.
+-- Rebuilding a sheet that has its shape: what its polynomial and its record 0 conjugate are, and the sheet that they give.
 -- Assumes nothing.
-use mathlib.Core.Path.{_≡_, sym, ap, ap₂, _∙_}
-use mathlib.Core.Bool.{Bool, true}
+use mathlib.Core.Path.{_≡_, sym, ap, _∙_}
 use mathlib.Core.List.{List, _++_}
 use Prim.Native.Nat.{ℕ, _+_, _*_, _%_, _^_, _≤_, _<_}
 use native.Mathlib.Omega.{arith}
-use lib.ListN.{length, drop}
+use lib.ListN.{length, drop, length-append}
 use lib.Pow.{pow-mono}
-use Rattle.gf2.specs.Poly.{Degree}
-use Rattle.refusals.specs.Verdicts.{firstOf}
-use Rattle.field.specs.Refusals.{numberOf, fieldOrder}
-use Rattle.normal.specs.Normal.{normal}
-use Rattle.normal.specs.Basis.{basisRows, builtOf}
-use Rattle.normal.specs.declared.basis.Built.{Built}
-use Rattle.sheet.specs.Record.{recordSize, recordCount, tailIn, conjugateIn, polynomialIn, tailOf, recordsTo, sheetBytes}
-use Rattle.sheet.specs.Orders.{rebuiltFrom}
-use Rattle.sheet.specs.Bytes.{pasted, pasted-length}
+use Rattle.field.specs.Accepted.{InRange, Element}
+use Rattle.sheet.specs.Record.{recordSize, recordCount, tailIn, polynomialIn, tailOf, recordsTo, sheetBytes}
+use Rattle.sheet.specs.Orders.{rebuiltFrom, Shaped}
+use Rattle.sheet.specs.Answers.{summaryOf, summaryIn, atFront}
 use Rattle.sheet.specs.Writing.{recordsTo-length}
-use Rattle.sheet.specs.Basis.{power-word, built-flag, built-rows, sheet-written}
-use Rattle.sheet.specs.Clear.{Shaped, fields-lt, polynomial-degree}
-use Rattle.sheet.specs.Reading.{firstDiffering, differing-front}
+use Rattle.sheet.specs.Basis.{power-word}
+use Rattle.sheet.specs.Clear.{columns-lt, polynomial-degree}
+use Rattle.sheet.specs.Reading.{Rebuilt, firstDiffering, differing-front}
+use Rattle.sheet.specs.declared.answer.Summary.{Summary}
 
 pub sheetBytes-length : (f n a : ℕ) → length (sheetBytes f n a) ≡ recordSize * n
 unfolding sheetBytes
 sheetBytes-length f n a = recordsTo-length n n (tailOf f n) _ _ _
 
-module _ (sheet : List ℕ) (z : Shaped sheet) (t : ℕ) (et : t ≡ tailIn sheet 0) where
-  pub tail-lt : t < 2 ^ recordCount sheet
-  tail-lt = rw et (fields-lt sheet z 0 (omega (arith, z .size .two)) .0)
+-- ---- its polynomial, as a word
 
-  -- the polynomial, as a word
+module _ (sheet : List ℕ) (z : Shaped sheet) (t : ℕ) (et : t ≡ tailIn sheet 0) where
+  tail-lt : t < 2 ^ recordCount sheet
+  tail-lt = rw et (columns-lt sheet z 0 (omega (arith, z .size .two)) .0)
+
   pub word-fits : 1 * 2 ^ recordCount sheet % 2 ^ 64 + t < 2 ^ 64
   word-fits = rw (power-word (recordCount sheet) (z .size .most)) (omega (arith, tail-lt, pow-mono (z .size .most)))
 
   pub word-polynomial : 1 * 2 ^ recordCount sheet % 2 ^ 64 + t ≡ polynomialIn sheet
   word-polynomial = rw (power-word (recordCount sheet) (z .size .most), et)
 
-  pub word-degree : Degree (1 * 2 ^ recordCount sheet % 2 ^ 64 + t) (recordCount sheet)
-  word-degree = rw word-polynomial (polynomial-degree sheet z)
+-- ---- what it is rebuilt from
 
-  pub word-refusal : (k : ℕ) → k ≡ numberOf (firstOf (fieldOrder (1 * 2 ^ recordCount sheet % 2 ^ 64 + t))) → k ≡ numberOf (firstOf (fieldOrder (polynomialIn sheet)))
-  word-refusal k e = e ∙ ap (λ (f : ℕ). numberOf (firstOf (fieldOrder f))) word-polynomial
+pub shaped-range : (sheet : List ℕ) → Shaped sheet → InRange (polynomialIn sheet) (recordCount sheet)
+shaped-range sheet z = record { two = z .size .two; most = z .size .most; is-degree = polynomial-degree sheet z }
 
-  module _ (a : ℕ) (ea : a ≡ conjugateIn sheet 0) (r : Built) (er : r ≡ builtOf (1 * 2 ^ recordCount sheet % 2 ^ 64 + t) (recordCount sheet) a) where
-    built-is : r ≡ builtOf (polynomialIn sheet) (recordCount sheet) (conjugateIn sheet 0)
-    built-is = er ∙ ap₂ (λ (f b : ℕ). builtOf f (recordCount sheet) b) word-polynomial ea
+module _ (sheet : List ℕ) (f n a : ℕ) (r : Rebuilt sheet f n a) where
+  pub rebuilt-element : Element f n a
+  rebuilt-element =
+      let z = r .shaped in
+      rw (r .polynomial, r .count, r .conjugate)
+      (record { in-range = shaped-range sheet z; small = columns-lt sheet z 0 (omega (arith, z .size .two)) .1 })
 
-    pub rebuilt-flag : {b : Bool} → r .normal ≡ b → normal (polynomialIn sheet) (recordCount sheet) (conjugateIn sheet 0) ≡ b
-    rebuilt-flag e = sym (built-flag (polynomialIn sheet) (recordCount sheet) (conjugateIn sheet 0)) ∙ ap (λ (x : Built). x .normal) (sym built-is) ∙ e
+  pub rebuilt-sheet : sheetBytes f n a ≡ rebuiltFrom sheet
+  rebuilt-sheet = rw (r .polynomial, r .count, r .conjugate)
 
-    module _ (e : r .normal ≡ true) where
-      pub rebuilt-basis : r .basis ≡ basisRows (polynomialIn sheet) (recordCount sheet) (conjugateIn sheet 0)
-      rebuilt-basis =
-          ap (λ (x : Built). x .basis) built-is ∙ built-rows (polynomialIn sheet) (recordCount sheet) (conjugateIn sheet 0) (rebuilt-flag e)
+  pub rebuilt-summary : summaryOf f n a ≡ summaryIn sheet
+  rebuilt-summary = rw (r .polynomial, r .count, r .conjugate)
 
-      module _ (buffer last : List ℕ) (el : last ≡ pasted buffer 0 (recordsTo (recordCount sheet) (recordCount sheet) t (r .basis .conjugates) (r .basis .inverse) (r .basis .table))) where
-        pub rebuilt-bytes : last ≡ rebuiltFrom sheet ++ drop (length (rebuiltFrom sheet)) buffer
-        rebuilt-bytes =
-            el ∙ sheet-written (polynomialIn sheet) (recordCount sheet) (conjugateIn sheet 0) t (r .basis) buffer rebuilt-basis (rw et (omega arith))
+  -- what stands after the rebuilt sheet in its buffer changes no record
+  pub rebuilt-differing : (buffer last : List ℕ) → last ≡ atFront (sheetBytes f n a) buffer → firstDiffering sheet last 0 n ≡ firstDiffering sheet (rebuiltFrom sheet) 0 n
+  rebuilt-differing buffer last e =
+      ap (λ (l : List ℕ). firstDiffering sheet l 0 n) (e ∙ ap (λ (l : List ℕ). atFront l buffer) rebuilt-sheet)
+      ∙ differing-front sheet (rebuiltFrom sheet) (drop (length (rebuiltFrom sheet)) buffer) 0 n (rw (sheetBytes-length, ← r .count) (omega arith))
 
-        pub rebuilt-length : recordSize * recordCount sheet ≤ length buffer → length last ≡ length buffer
-        rebuilt-length h = rw el (pasted-length buffer 0 _ (rw recordsTo-length (omega arith)))
-
-        pub rebuilt-differing : (p : ℕ) → p ≡ firstDiffering sheet last 0 (recordCount sheet) → p ≡ firstDiffering sheet (rebuiltFrom sheet) 0 (recordCount sheet)
-        rebuilt-differing p ep =
-            ep ∙ ap (λ (l : List ℕ). firstDiffering sheet l 0 (recordCount sheet)) rebuilt-bytes
-            ∙ differing-front sheet (rebuiltFrom sheet) (drop (length (rebuiltFrom sheet)) buffer) 0 (recordCount sheet) (rw sheetBytes-length (omega arith))
+  pub rebuilt-room : (buffer last : List ℕ) → last ≡ atFront (sheetBytes f n a) buffer → recordSize * n ≤ length last
+  rebuilt-room buffer last e = rw (e, length-append, sheetBytes-length) (omega arith)

@@ -6,7 +6,8 @@
 --   recordBytes ..                one record
 --   recordsTo k ..                the first k records
 --   sheetBytes f n a              the sheet of f, of degree n, and the element a
---   ..In sheet i                  the fields of record i, as they stand
+--   ..In sheet i                  the columns of record i, as they stand
+--   ..RowsIn sheet                one column from record to record: the rows of a matrix
 --   recordAt sheet i              the bytes of record i
 --
 -- Assumes nothing.
@@ -82,30 +83,39 @@ sheetBytes f n a = recordsTo n n (tailOf f n) (conjugates f n a) (inverseRows f 
 abbrev pub recordCount : (sheet : List ℕ) → ℕ
 recordCount sheet = length sheet / recordSize
 
-unfoldable pub fieldIn : (sheet : List ℕ) (i at size : ℕ) → ℕ
-fieldIn sheet i at size = numberIn (take size (drop (recordSize * i + at) sheet))
+unfoldable pub columnIn : (sheet : List ℕ) (i at size : ℕ) → ℕ
+columnIn sheet i at size = numberIn (take size (drop (recordSize * i + at) sheet))
 
 abbrev pub degreeIn : (sheet : List ℕ) (i : ℕ) → ℕ
-degreeIn sheet i = fieldIn sheet i degreeAt byteSize
+degreeIn sheet i = columnIn sheet i degreeAt byteSize
 
 abbrev pub rowIn : (sheet : List ℕ) (i : ℕ) → ℕ
-rowIn sheet i = fieldIn sheet i rowAt byteSize
+rowIn sheet i = columnIn sheet i rowAt byteSize
 
 abbrev pub tailIn : (sheet : List ℕ) (i : ℕ) → ℕ
-tailIn sheet i = fieldIn sheet i tailAt tailSize
+tailIn sheet i = columnIn sheet i tailAt tailSize
 
 abbrev pub conjugateIn : (sheet : List ℕ) (i : ℕ) → ℕ
-conjugateIn sheet i = fieldIn sheet i conjugateAt wordSize
+conjugateIn sheet i = columnIn sheet i conjugateAt wordSize
 
 abbrev pub inverseIn : (sheet : List ℕ) (i : ℕ) → ℕ
-inverseIn sheet i = fieldIn sheet i inverseAt wordSize
+inverseIn sheet i = columnIn sheet i inverseAt wordSize
 
 abbrev pub tableIn : (sheet : List ℕ) (i : ℕ) → ℕ
-tableIn sheet i = fieldIn sheet i tableAt wordSize
+tableIn sheet i = columnIn sheet i tableAt wordSize
 
--- the rows of one field, as many as there are records
+-- the rows of one column, as many as there are records
 unfoldable pub rowsIn : (sheet : List ℕ) (at : ℕ) → List ℕ
-rowsIn sheet at = listed (recordCount sheet) (λ i. fieldIn sheet i at wordSize)
+rowsIn sheet at = listed (recordCount sheet) (λ i. columnIn sheet i at wordSize)
+
+abbrev pub conjugateRowsIn : (sheet : List ℕ) → List ℕ
+conjugateRowsIn sheet = rowsIn sheet conjugateAt
+
+abbrev pub inverseRowsIn : (sheet : List ℕ) → List ℕ
+inverseRowsIn sheet = rowsIn sheet inverseAt
+
+abbrev pub tableRowsIn : (sheet : List ℕ) → List ℕ
+tableRowsIn sheet = rowsIn sheet tableAt
 
 unfoldable pub recordAt : (sheet : List ℕ) (i : ℕ) → List ℕ
 recordAt sheet i = take recordSize (drop (recordSize * i) sheet)

@@ -14,39 +14,34 @@ use Rattle.field.specs.Refusals.{tooLarge}
 use Rattle.refusals.specs.Orders.{first-applies, first-passes}
 use Rattle.gf2.specs.Truth.{or-false}
 use Rattle.sheet.specs.Record.{recordSize, recordCount, degreeIn, rowIn, tailIn, conjugateIn, inverseIn, tableIn}
-use Rattle.sheet.specs.Orders.{badLength, misplaced, oversized, recordRules, shapeOrder, lengthRule}
+use Rattle.sheet.specs.Orders.{badLength, misplaced, oversized, recordRules, shapeOrder, lengthRule, Sized}
 
 -- ---- refusal 7
 
-pub length-odd : (size : ℕ) → (size % 32 ≡ 0 → ⊥) → true ≡ badLength size
+pub length-odd : (size : ℕ) → (size % recordSize ≡ 0 → ⊥) → true ≡ badLength size
 unfolding badLength
-length-odd size e = sym (rw (ne-eqb (size % 32) 0 e))
+length-odd size e = sym (rw (ne-eqb (size % recordSize) 0 e))
 
-pub length-few : (size : ℕ) → size % 32 ≡ 0 → size / 32 < 2 → ltb (size / 32) 2 ≡ badLength size
+pub length-few : (size : ℕ) → size % recordSize ≡ 0 → size / recordSize < 2 → ltb (size / recordSize) 2 ≡ badLength size
 unfolding badLength
-length-few size e h = rw (eq-eqb (size % 32) 0 e, lt-ltb (size / 32) 2 h)
+length-few size e h = rw (eq-eqb (size % recordSize) 0 e, lt-ltb (size / recordSize) 2 h)
 
-pub length-many : (size : ℕ) → size % 32 ≡ 0 → 2 ≤ size / 32 → ltb limit (size / 32) ≡ badLength size
+pub length-many : (size : ℕ) → size % recordSize ≡ 0 → 2 ≤ size / recordSize → ltb limit (size / recordSize) ≡ badLength size
 unfolding badLength
-length-many size e h = rw (eq-eqb (size % 32) 0 e, le-ltb (size / 32) 2 h)
+length-many size e h = rw (eq-eqb (size % recordSize) 0 e, le-ltb (size / recordSize) 2 h)
 
 -- what a good length is
-pub record Sized (sheet : List ℕ) : Type 0 where
-  pub whole : length sheet ≡ recordSize * recordCount sheet
-  pub two : 2 ≤ recordCount sheet
-  pub most : recordCount sheet ≤ limit
-
 pub good-length : (sheet : List ℕ) → badLength (length sheet) ≡ false → Sized sheet
 unfolding badLength
 good-length sheet e =
     let size : ℕ = length sheet in
-    let s = or-false (not (eqb (size % 32) 0) || ltb (size / 32) 2) (ltb limit (size / 32)) e in
-    let t = or-false (not (eqb (size % 32) 0)) (ltb (size / 32) 2) (s .0) in
-    let z : size % 32 ≡ 0 = eqb-true (size % 32) 0 (not-false (eqb (size % 32) 0) (t .0)) in
+    let s = or-false (not (eqb (size % recordSize) 0) || ltb (size / recordSize) 2) (ltb limit (size / recordSize)) e in
+    let t = or-false (not (eqb (size % recordSize) 0)) (ltb (size / recordSize) 2) (s .0) in
+    let z : size % recordSize ≡ 0 = eqb-true (size % recordSize) 0 (not-false (eqb (size % recordSize) 0) (t .0)) in
     record {
       whole = omega arith;
-      two = ltb-false (size / 32) 2 (t .1);
-      most = ltb-false limit (size / 32) (s .1);
+      two = ltb-false (size / recordSize) 2 (t .1);
+      most = ltb-false limit (size / recordSize) (s .1);
     }
 
 -- ---- refusal 8

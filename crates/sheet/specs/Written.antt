@@ -26,13 +26,13 @@ use Rattle.normal.specs.Normal.{conjugates, inverseRows, tableRows, listed}
 use Rattle.normal.specs.Coordinates.{listed-at, listed-length, conjugates-matrix, inverseRows-length, inverseRows-inverse}
 use Rattle.normal.specs.Selected.{conjugates-at, conjugates-length}
 use Rattle.normal.specs.Products.{Table, tableRows-table}
-use Rattle.sheet.specs.Record.{recordSize, recordCount, conjugateAt, inverseAt, tableAt, wordSize, fieldIn, rowsIn, degreeIn, rowIn, tailIn, conjugateIn, inverseIn, tableIn, recordAt, polynomialIn, tailOf, sheetBytes}
+use Rattle.sheet.specs.Record.{recordSize, recordCount, conjugateAt, inverseAt, tableAt, wordSize, columnIn, rowsIn, degreeIn, rowIn, tailIn, conjugateIn, inverseIn, tableIn, recordAt, polynomialIn, tailOf, sheetBytes}
 use Rattle.sheet.specs.Orders.{badLength, misplaced, oversized, recordRules, same, differRules, shapeOrder, lengthRule, rebuiltFrom}
 use Rattle.sheet.specs.Rebuilding.{sheetBytes-length}
 use Rattle.sheet.specs.Reading.{recordAt-byte}
-use Rattle.sheet.specs.Fields.{degree-written, row-written, tail-written, conjugate-written, inverse-written, table-written}
+use Rattle.sheet.specs.Columns.{degree-written, row-written, tail-written, conjugate-written, inverse-written, table-written}
 
-word : (n v : ℕ) → n ≤ limit → v < 2 ^ n → v < 256 ^ 8
+word : (n v : ℕ) → n ≤ limit → v < 2 ^ n → v < 256 ^ wordSize
 word n v h l = omega (arith, pow-mono h)
 
 module _ (f n a : ℕ) (deg : Degree f n) (two : 2 ≤ n) (most : n ≤ limit) (ha : a < 2 ^ n) (free : Independent (conjugates f n a) n) where
@@ -83,12 +83,12 @@ module _ (f n a : ℕ) (deg : Degree f n) (two : 2 ≤ n) (most : n ≤ limit) (
         (word n (getD (tableRows f n a) i 0) most (tab .row-lt i h))
 
   -- its rows
-  rows-are : (at : ℕ) (rows : List ℕ) → length rows ≡ n → ((i : ℕ) → i < n → fieldIn sheet i at wordSize ≡ getD rows i 0) → rowsIn sheet at ≡ rows
+  rows-are : (at : ℕ) (rows : List ℕ) → length rows ≡ n → ((i : ℕ) → i < n → columnIn sheet i at wordSize ≡ getD rows i 0) → rowsIn sheet at ≡ rows
   unfolding rowsIn
   rows-are at rows size e =
       rw written-count
-      (ext-getD 0 (listed n (λ i. fieldIn sheet i at wordSize)) rows (listed-length n (λ i. fieldIn sheet i at wordSize) ∙ sym size)
-      (λ i l. let h : i < n = rw listed-length at l in listed-at n (λ i. fieldIn sheet i at wordSize) i h ∙ e i h))
+      (ext-getD 0 (listed n (λ i. columnIn sheet i at wordSize)) rows (listed-length n (λ i. columnIn sheet i at wordSize) ∙ sym size)
+      (λ i l. let h : i < n = rw listed-length at l in listed-at n (λ i. columnIn sheet i at wordSize) i h ∙ e i h))
 
   pub conjugates-held : rowsIn sheet conjugateAt ≡ conjugates f n a
   conjugates-held = rows-are conjugateAt (conjugates f n a) (conjugates-length f n a) conjugate-is
@@ -104,10 +104,10 @@ module _ (f n a : ℕ) (deg : Degree f n) (two : 2 ≤ n) (most : n ≤ limit) (
   good-size : badLength (length sheet) ≡ false
   unfolding badLength
   good-size =
-      let s : length sheet ≡ 32 * n = sheetBytes-length f n a in
-      let q : length sheet / 32 ≡ n = omega arith in
-      let r : length sheet % 32 ≡ 0 = omega arith in
-      rw (eq-eqb (length sheet % 32) 0 r, q, le-ltb n 2 two, le-ltb limit n most)
+      let s : length sheet ≡ recordSize * n = sheetBytes-length f n a in
+      let q : length sheet / recordSize ≡ n = omega arith in
+      let r : length sheet % recordSize ≡ 0 = omega arith in
+      rw (eq-eqb (length sheet % recordSize) 0 r, q, le-ltb n 2 two, le-ltb limit n most)
 
   in-place : (i : ℕ) → i < n → misplaced sheet i ≡ false
   unfolding misplaced
@@ -193,10 +193,10 @@ pub same-sheets : (sheet rebuilt : List ℕ) (n : ℕ) → length sheet ≡ reco
 same-sheets sheet rebuilt n es er e =
     ext-getD 0 sheet rebuilt (es ∙ sym er)
     (λ j l.
-    let i : ℕ = j / 32 in
-    let k : ℕ = j % 32 in
-    let hk : k < 32 = omega arith in
+    let i : ℕ = j / recordSize in
+    let k : ℕ = j % recordSize in
+    let hk : k < recordSize = omega arith in
     let hi : i < n = omega arith in
-    let s : 32 * i + k ≡ j = omega arith in
+    let s : recordSize * i + k ≡ j = omega arith in
     let r : recordAt sheet i ≡ recordAt rebuilt i = rw zero-add at (records-same sheet rebuilt n 0 e i hi) in
     ap (λ (m : ℕ). getD sheet m 0) (sym s) ∙ sym (recordAt-byte sheet i k hk) ∙ ap (λ (x : List ℕ). getD x k 0) r ∙ recordAt-byte rebuilt i k hk ∙ ap (λ (m : ℕ). getD rebuilt m 0) s)

@@ -1,41 +1,50 @@
 // The public calls that convert single values and multiply through a sheet, by its rows as they stand.
 ghost use mathlib.Core.Path.{_≡_};
-ghost use Prim.Native.Nat.{_+_, _≤_};
-ghost use Rattle.refusals.specs.Answers.{valueReport};
-ghost use Rattle.sheet.specs.Record.{recordSize};
-ghost use Rattle.sheet.specs.Answers.{convertAnswer, convertReport, polynomialAnswer, polynomialReport, normalAnswer, normalReport, timesAnswer, timesReport};
+ghost use mathlib.Core.List.{[], _∷_};
+ghost use Prim.Native.Nat.{_+_, _^_, _≤_, _<_};
+ghost use Rattle.refusals.specs.Verdicts.{firstOf};
+ghost use Rattle.refusals.specs.Answers.{checkedOf, valueReport};
+ghost use Rattle.rows.specs.Rows.{comb};
+ghost use Rattle.sheet.specs.Record.{recordSize, recordCount, wordSize, rowsIn};
+ghost use Rattle.sheet.specs.Orders.{Shaped, valueOrder};
+ghost use Rattle.sheet.specs.Answers.{polynomialAnswer, polynomialReport, normalAnswer, normalReport, throughTable, timesAnswer, timesReport};
 use super::layout::CONJUGATE_AT;
 use super::layout::INVERSE_AT;
 use super::layout::RECORD;
 use super::layout::TABLE_AT;
-use super::shape::load_rows;
-use super::shape::shape_of;
-use field::too_large;
+use super::loading::load_rows;
+use super::shape::shape_verdict;
+use field::elements_verdict;
 use normal::product_of;
-use refusals::Refusal;
+use refusals::Checked;
 use refusals::Value;
 use rows::sum;
 
-// The sum of the rows of one field that the bits of value pick.
-fn convert(sheet: &[u8], at: usize, value: u64) -> Value
-    requires { ⌜ at + 8 ≤ recordSize ⌝ }
-    ensures answer { λ r. ⌜ r ≡ convertAnswer (now (sheet .entry)) at value ⌝ }
-    ensures report { λ r. ⌜ valueReport r ≡ convertReport (now (sheet .entry)) at value ⌝ }
+// The shape, then 4 for two numbers.
+fn values_verdict(sheet: &[u8], a: u64, b: u64) -> Checked
+    ensures { λ r. ⌜ r ≡ checkedOf (firstOf (valueOrder (now (sheet .entry)) (a ∷ b ∷ []))) ⌝ }
 {
-    let shape = shape_of(sheet);
-    let number = shape.number;
-    if number != 0 {
-        return Value::Refused(shape);
+    let shape = shape_verdict(sheet);
+    match shape {
+        Checked::Refused(refusal) => Checked::Refused(refusal),
+        Checked::Done => elements_verdict((sheet.len() / RECORD) as u32, a, b),
     }
-    let n = (sheet.len() / RECORD) as u32;
-    if too_large(n, value) {
-        return Value::Refused(Refusal {
-            number: 4,
-            place: 0,
-        });
-    }
+}
+
+// The shape, then 4 for one number.
+fn value_verdict(sheet: &[u8], value: u64) -> Checked
+    ensures { λ r. ⌜ r ≡ checkedOf (firstOf (valueOrder (now (sheet .entry)) (value ∷ []))) ⌝ }
+{
+    values_verdict(sheet, value, value)
+}
+
+// The sum of the rows of one column that the bits of value pick.
+fn converted(sheet: &[u8], at: usize, value: u64) -> u64
+    requires { ⌜ Shaped (now sheet) × (at + wordSize ≤ recordSize) × (value < 2 ^ recordCount (now sheet)) ⌝ }
+    ensures { λ r. ⌜ r ≡ comb (rowsIn (now (sheet .entry)) at) value ⌝ }
+{
     let rows = load_rows(sheet, at);
-    Value::Done(sum(&rows, value))
+    sum(&rows, value)
 }
 
 // The element that normal coordinates stand for.
@@ -43,7 +52,11 @@ pub fn to_polynomial(sheet: &[u8], coordinates: u64) -> Value
     ensures answer { λ r. ⌜ r ≡ polynomialAnswer (now (sheet .entry)) coordinates ⌝ }
     ensures report { λ r. ⌜ valueReport r ≡ polynomialReport (now (sheet .entry)) coordinates ⌝ }
 {
-    convert(sheet, CONJUGATE_AT, coordinates)
+    let verdict = value_verdict(sheet, coordinates);
+    match verdict {
+        Checked::Refused(refusal) => Value::Refused(refusal),
+        Checked::Done => Value::Done(converted(sheet, CONJUGATE_AT, coordinates)),
+    }
 }
 
 // The normal coordinates of an element.
@@ -51,7 +64,20 @@ pub fn to_normal(sheet: &[u8], element: u64) -> Value
     ensures answer { λ r. ⌜ r ≡ normalAnswer (now (sheet .entry)) element ⌝ }
     ensures report { λ r. ⌜ valueReport r ≡ normalReport (now (sheet .entry)) element ⌝ }
 {
-    convert(sheet, INVERSE_AT, element)
+    let verdict = value_verdict(sheet, element);
+    match verdict {
+        Checked::Refused(refusal) => Value::Refused(refusal),
+        Checked::Done => Value::Done(converted(sheet, INVERSE_AT, element)),
+    }
+}
+
+// The product of normal coordinates, through the table.
+fn multiplied(sheet: &[u8], a: u64, b: u64) -> u64
+    requires { ⌜ Shaped (now sheet) × (a < 2 ^ recordCount (now sheet)) × (b < 2 ^ recordCount (now sheet)) ⌝ }
+    ensures { λ r. ⌜ r ≡ throughTable (now (sheet .entry)) a b ⌝ }
+{
+    let table = load_rows(sheet, TABLE_AT);
+    product_of(table, (sheet.len() / RECORD) as u32, a, b)
 }
 
 // The product of normal coordinates a and b.
@@ -59,24 +85,9 @@ pub fn times(sheet: &[u8], a: u64, b: u64) -> Value
     ensures answer { λ r. ⌜ r ≡ timesAnswer (now (sheet .entry)) a b ⌝ }
     ensures report { λ r. ⌜ valueReport r ≡ timesReport (now (sheet .entry)) a b ⌝ }
 {
-    let shape = shape_of(sheet);
-    let number = shape.number;
-    if number != 0 {
-        return Value::Refused(shape);
+    let verdict = values_verdict(sheet, a, b);
+    match verdict {
+        Checked::Refused(refusal) => Value::Refused(refusal),
+        Checked::Done => Value::Done(multiplied(sheet, a, b)),
     }
-    let n = (sheet.len() / RECORD) as u32;
-    if too_large(n, a) {
-        return Value::Refused(Refusal {
-            number: 4,
-            place: 0,
-        });
-    }
-    if too_large(n, b) {
-        return Value::Refused(Refusal {
-            number: 4,
-            place: 0,
-        });
-    }
-    let table = load_rows(sheet, TABLE_AT);
-    Value::Done(product_of(table, n, a, b))
 }

@@ -1,23 +1,26 @@
 // The public calls that convert lists. A list is written only when every value of it is good.
 ghost use mathlib.Core.Path.{_≡_};
-ghost use mathlib.Core.List.{map};
+ghost use mathlib.Core.List.{_∷_, map};
 ghost use Prim.Native.Nat.{ℕ, _+_, _^_, _≤_, _<_};
 ghost use lib.ListN.{length, getD};
 ghost use Rattle.gf2.specs.Limit.{limit};
-ghost use Rattle.refusals.specs.Answers.{checkedReport};
+ghost use Rattle.refusals.specs.Verdicts.{firstOf};
+ghost use Rattle.refusals.specs.Answers.{checkedOf, checkedReport};
 ghost use Rattle.rows.specs.Rows.{comb};
-ghost use Rattle.sheet.specs.Record.{recordSize, conjugateAt, inverseAt};
-ghost use Rattle.sheet.specs.Answers.{listAnswer, listReport, convertedList};
+ghost use Rattle.sheet.specs.Record.{recordSize, recordCount, wordSize, rowsIn};
+ghost use Rattle.sheet.specs.Orders.{Shaped, Listed, listRule, valueRules, listOrder};
+ghost use Rattle.sheet.specs.Answers.{polynomialListAnswer, polynomialListReport, polynomialList, normalListAnswer, normalListReport, normalList};
 ghost use Rattle.sheet.specs.Lists.{firstLarge};
 use super::layout::CONJUGATE_AT;
 use super::layout::INVERSE_AT;
 use super::layout::RECORD;
-use super::shape::load_rows;
-use super::shape::shape_of;
+use super::loading::load_rows;
+use super::shape::shape_verdict;
 use field::too_large;
 use gf2::LIMIT;
 use refusals::Checked;
-use refusals::Refusal;
+use refusals::refused;
+use refusals::refused_at;
 use rows::BYTE_SUMS;
 use rows::byte_sums;
 use rows::sum;
@@ -93,58 +96,73 @@ fn convert_values(rows: [u64; LIMIT], list: &mut [u64])
     }
 }
 
-// The list from, converted by the rows of one field into the list into.
-fn convert_list(sheet: &[u8], at: usize, from: &[u64], into: &mut [u64]) -> Checked
-    requires { ⌜ at + 8 ≤ recordSize ⌝ }
-    ensures answer { λ r. ⌜ r ≡ listAnswer (now (sheet .entry)) (now (from .entry)) (length (now (into .entry))) ⌝ }
-    ensures report { λ r. ⌜ checkedReport r ≡ listReport (now (sheet .entry)) (now (from .entry)) (length (now (into .entry))) ⌝ }
-    ensures written { λ r. ⌜ now (into .exit) ≡ convertedList (now (sheet .entry)) at (now (from .entry)) (now (into .entry)) ⌝ }
+// The list from, converted by the rows of one column into the list into.
+fn convert_list(sheet: &[u8], at: usize, from: &[u64], into: &mut [u64])
+    requires { ⌜ Shaped (now sheet) × (at + wordSize ≤ recordSize) × Listed (recordCount (now sheet)) (now from) (length (now into)) ⌝ }
+    ensures { λ r. ⌜ now (into .exit) ≡ map (comb (rowsIn (now (sheet .entry)) at)) (now (from .entry)) ⌝ }
 {
-    let shape = shape_of(sheet);
-    let number = shape.number;
-    if number != 0 {
-        return Checked::Refused(shape);
-    }
-    if from.len() != into.len() {
-        return Checked::Refused(Refusal {
-            number: 11,
-            place: 0,
-        });
-    }
-    if LIST_LIMIT < from.len() {
-        return Checked::Refused(Refusal {
-            number: 11,
-            place: 0,
-        });
-    }
-    let n = (sheet.len() / RECORD) as u32;
-    let large = first_too_large(n, from);
-    if large < from.len() {
-        return Checked::Refused(Refusal {
-            number: 4,
-            place: large,
-        });
-    }
     let rows = load_rows(sheet, at);
     copy(from, into);
     convert_values(rows, into);
+}
+
+// 11, then 4 with the index of the first value that is too large.
+fn lengths_verdict(n: u32, from: &[u64], into: usize) -> Checked
+    requires { ⌜ n < 64 ⌝ }
+    ensures { λ r. ⌜ r ≡ checkedOf (firstOf (listRule (length (now (from .entry))) into ∷ valueRules n 0 (now (from .entry)))) ⌝ }
+{
+    if from.len() != into {
+        return refused(11);
+    }
+    if LIST_LIMIT < from.len() {
+        return refused(11);
+    }
+    let large = first_too_large(n, from);
+    if large < from.len() {
+        return refused_at(4, large);
+    }
     Checked::Done
+}
+
+// The shape, then 11 and 4.
+fn list_verdict(sheet: &[u8], from: &[u64], into: usize) -> Checked
+    ensures { λ r. ⌜ r ≡ checkedOf (firstOf (listOrder (now (sheet .entry)) (now (from .entry)) into)) ⌝ }
+{
+    let shape = shape_verdict(sheet);
+    match shape {
+        Checked::Refused(refusal) => Checked::Refused(refusal),
+        Checked::Done => lengths_verdict((sheet.len() / RECORD) as u32, from, into),
+    }
 }
 
 // The elements that a list of normal coordinates stands for.
 pub fn list_to_polynomial(sheet: &[u8], from: &[u64], into: &mut [u64]) -> Checked
-    ensures answer { λ r. ⌜ r ≡ listAnswer (now (sheet .entry)) (now (from .entry)) (length (now (into .entry))) ⌝ }
-    ensures report { λ r. ⌜ checkedReport r ≡ listReport (now (sheet .entry)) (now (from .entry)) (length (now (into .entry))) ⌝ }
-    ensures written { λ r. ⌜ now (into .exit) ≡ convertedList (now (sheet .entry)) conjugateAt (now (from .entry)) (now (into .entry)) ⌝ }
+    ensures answer { λ r. ⌜ r ≡ polynomialListAnswer (now (sheet .entry)) (now (from .entry)) (length (now (into .entry))) ⌝ }
+    ensures report { λ r. ⌜ checkedReport r ≡ polynomialListReport (now (sheet .entry)) (now (from .entry)) (length (now (into .entry))) ⌝ }
+    ensures written { λ r. ⌜ now (into .exit) ≡ polynomialList (now (sheet .entry)) (now (from .entry)) (now (into .entry)) ⌝ }
 {
-    convert_list(sheet, CONJUGATE_AT, from, into)
+    let verdict = list_verdict(sheet, from, into.len());
+    match verdict {
+        Checked::Refused(refusal) => Checked::Refused(refusal),
+        Checked::Done => {
+            convert_list(sheet, CONJUGATE_AT, from, into);
+            Checked::Done
+        }
+    }
 }
 
 // The normal coordinates of a list of elements.
 pub fn list_to_normal(sheet: &[u8], from: &[u64], into: &mut [u64]) -> Checked
-    ensures answer { λ r. ⌜ r ≡ listAnswer (now (sheet .entry)) (now (from .entry)) (length (now (into .entry))) ⌝ }
-    ensures report { λ r. ⌜ checkedReport r ≡ listReport (now (sheet .entry)) (now (from .entry)) (length (now (into .entry))) ⌝ }
-    ensures written { λ r. ⌜ now (into .exit) ≡ convertedList (now (sheet .entry)) inverseAt (now (from .entry)) (now (into .entry)) ⌝ }
+    ensures answer { λ r. ⌜ r ≡ normalListAnswer (now (sheet .entry)) (now (from .entry)) (length (now (into .entry))) ⌝ }
+    ensures report { λ r. ⌜ checkedReport r ≡ normalListReport (now (sheet .entry)) (now (from .entry)) (length (now (into .entry))) ⌝ }
+    ensures written { λ r. ⌜ now (into .exit) ≡ normalList (now (sheet .entry)) (now (from .entry)) (now (into .entry)) ⌝ }
 {
-    convert_list(sheet, INVERSE_AT, from, into)
+    let verdict = list_verdict(sheet, from, into.len());
+    match verdict {
+        Checked::Refused(refusal) => Checked::Refused(refusal),
+        Checked::Done => {
+            convert_list(sheet, INVERSE_AT, from, into);
+            Checked::Done
+        }
+    }
 }

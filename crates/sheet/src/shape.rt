@@ -1,13 +1,12 @@
-// The shape of a sheet: refusals 7, and 8 before 9 record by record; and its rows as they stand.
+// The shape of a sheet: refusals 7, and 8 before 9 record by record.
 ghost use mathlib.Core.Path.{_≡_};
 ghost use Prim.Native.Nat.{_+_, _*_, _≤_};
 ghost use lib.ListN.{length};
 ghost use Rattle.gf2.specs.Limit.{limit};
 ghost use Rattle.refusals.specs.Verdicts.{firstOf};
-ghost use Rattle.normal.specs.Normal.{padded};
-ghost use Rattle.sheet.specs.Record.{recordSize, recordCount, tailIn, rowsIn};
+ghost use Rattle.refusals.specs.Answers.{checkedOf};
+ghost use Rattle.sheet.specs.Record.{recordSize, recordCount, tailIn};
 ghost use Rattle.sheet.specs.Orders.{badLength, misplaced, oversized, shapeOrder};
-ghost use Rattle.sheet.specs.Verdicts.{refusalOf};
 use super::layout::BYTE;
 use super::layout::CONJUGATE_AT;
 use super::layout::DEGREE_AT;
@@ -21,7 +20,9 @@ use super::layout::WORD;
 use super::layout::number_at;
 use field::too_large;
 use gf2::LIMIT;
-use refusals::Refusal;
+use refusals::Checked;
+use refusals::refused;
+use refusals::refused_at;
 
 // Refusal 7: the length is not 32 times a count of 2 to 46.
 fn bad_length(size: usize) -> bool
@@ -68,51 +69,24 @@ fn is_oversized(sheet: &[u8], n: usize, i: usize) -> bool
     too_large(bits, number_at(sheet, at + TABLE_AT, WORD))
 }
 
-// The first refusal of the shape, or number 0 with place 0.
-pub fn shape_of(sheet: &[u8]) -> Refusal
-    ensures { λ r. ⌜ r ≡ refusalOf (firstOf (shapeOrder (now (sheet .entry)))) ⌝ }
+// 7, then records from 0 upward with 8 before 9 in each.
+pub fn shape_verdict(sheet: &[u8]) -> Checked
+    ensures { λ r. ⌜ r ≡ checkedOf (firstOf (shapeOrder (now (sheet .entry)))) ⌝ }
 {
     if bad_length(sheet.len()) {
-        return Refusal {
-            number: 7,
-            place: 0,
-        };
+        return refused(7);
     }
     let n = sheet.len() / RECORD;
     let tail = number_at(sheet, TAIL_AT, TAIL);
     let mut i: usize = 0;
     while i < n {
         if is_misplaced(sheet, n, i, tail) {
-            return Refusal {
-                number: 8,
-                place: i,
-            };
+            return refused_at(8, i);
         }
         if is_oversized(sheet, n, i) {
-            return Refusal {
-                number: 9,
-                place: i,
-            };
+            return refused_at(9, i);
         }
         i += 1;
     }
-    Refusal {
-        number: 0,
-        place: 0,
-    }
-}
-
-// The rows of the field at a place, as they stand.
-pub fn load_rows(sheet: &[u8], at: usize) -> [u64; LIMIT]
-    requires { ⌜ (recordCount (now sheet) ≤ limit) × (at + 8 ≤ recordSize) ⌝ }
-    ensures { λ r. ⌜ r ≡ padded (rowsIn (now (sheet .entry)) at) ⌝ }
-{
-    let mut rows: [u64; LIMIT] = [0; LIMIT];
-    let n = sheet.len() / RECORD;
-    let mut i: usize = 0;
-    while i < n {
-        rows[i] = number_at(sheet, RECORD * i + at, WORD);
-        i += 1;
-    }
-    rows
+    Checked::Done
 }

@@ -1,7 +1,7 @@
 -- `sheet::shape::is_misplaced` meets its contract: its tests are the definition's.
 -- Assumes nothing.
 use borrow.Author.Needs.{needs}
-use Rattle.sheet.specs.Record.{fieldIn}
+use Rattle.sheet.specs.Record.{columnIn}
 use Rattle.sheet.specs.Shape.{degree-differs, row-differs, tail-decides}
 use Rattle.sheet.proofs.shape.is_misplaced.Statement.{statement}
 use Rattle.sheet.proofs.shape.is_misplaced.Tie as tie
@@ -16,7 +16,7 @@ number-at-requires : tie.Need-number-at-requires
 number-at-requires c κs = search needs
 
 returns : tie.Need-returns
-unfolding fieldIn
+unfolding columnIn
 returns c =
     let d = c .before in
     let s = d .before .before in
@@ -29,7 +29,7 @@ number-at-requires-2 : tie.Need-number-at-requires-2
 number-at-requires-2 c κs = search needs
 
 returns-2 : tie.Need-returns-2
-unfolding fieldIn
+unfolding columnIn
 returns-2 c =
     let r = c .before in
     let d = r .before .before in
@@ -43,7 +43,7 @@ number-at-requires-3 : tie.Need-number-at-requires-3
 number-at-requires-3 c κs = search needs
 
 returns-3 : tie.Need-returns-3
-unfolding fieldIn
+unfolding columnIn
 returns-3 c =
     let e = c .before in
     let r = e .before in

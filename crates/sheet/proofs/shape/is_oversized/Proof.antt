@@ -5,7 +5,7 @@ use Prim.Native.Nat.{ℕ}
 use mathlib.Core.Bool.{Bool}
 use borrow.Author.Needs.{needs}
 use Rattle.field.specs.Refusals.{tooLarge}
-use Rattle.sheet.specs.Record.{fieldIn}
+use Rattle.sheet.specs.Record.{columnIn}
 use Rattle.sheet.specs.Shape.{tail-large, conjugate-large, inverse-large, table-decides}
 use Rattle.sheet.proofs.shape.is_oversized.Statement.{statement}
 use Rattle.sheet.proofs.shape.is_oversized.Tie as tie
@@ -30,7 +30,7 @@ too-large-requires : tie.Need-too-large-requires
 too-large-requires c κs = search needs
 
 returns : tie.Need-returns
-unfolding fieldIn
+unfolding columnIn
 returns c =
     let t = c .before in
     let s = t .before .before .before in
@@ -46,7 +46,7 @@ too-large-requires-2 : tie.Need-too-large-requires-2
 too-large-requires-2 c κs = search needs
 
 returns-2 : tie.Need-returns-2
-unfolding fieldIn
+unfolding columnIn
 returns-2 c =
     let u = c .before in
     let t = u .before .before .before in
@@ -65,7 +65,7 @@ too-large-requires-3 : tie.Need-too-large-requires-3
 too-large-requires-3 c κs = search needs
 
 returns-3 : tie.Need-returns-3
-unfolding fieldIn
+unfolding columnIn
 returns-3 c =
     let v = c .before in
     let u = v .before .before .before in
@@ -86,7 +86,7 @@ too-large-requires-4 : tie.Need-too-large-requires-4
 too-large-requires-4 c κs = search needs
 
 returns-4 : tie.Need-returns-4
-unfolding fieldIn
+unfolding columnIn
 returns-4 c =
     let w = c .before .before in
     let v = w .before in

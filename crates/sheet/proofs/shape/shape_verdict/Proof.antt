@@ -1,4 +1,4 @@
--- `sheet::shape::shape_of` meets its contract. The invariant: the records from i on decide.
+-- `sheet::shape::shape_verdict` meets its contract. The invariant: the records from i on decide.
 -- The measure is the number of records left. Assumes nothing.
 use mathlib.Core.Path.{_≡_, refl, sym, ap, _∙_}
 use mathlib.Core.Bool.{false}
@@ -8,13 +8,14 @@ use native.Mathlib.Omega.{arith}
 use borrow.Author.Needs.{needs}
 use lib.ListN.{length}
 use Rattle.refusals.specs.Verdicts.{Verdict, clear, refuse, firstOf}
-use Rattle.refusals.specs.Answers.{refusalAt}
-use Rattle.sheet.specs.Record.{recordCount, fieldIn}
+use Rattle.refusals.specs.Answers.{answerOf, checkedOf}
+use Rattle.refusals.specs.declared.answer.Checked.{Checked}
+use Rattle.refusals.specs.declared.answer.Checked.the-variants as checked
+use Rattle.sheet.specs.Record.{recordCount, columnIn}
 use Rattle.sheet.specs.Orders.{badLength, recordRules, shapeOrder}
-use Rattle.sheet.specs.Verdicts.{refusalOf}
 use Rattle.sheet.specs.Shape.{good-length, walk-misplaced, walk-oversized, walk-on, walk-done, shape-short, shape-long}
-use Rattle.sheet.proofs.shape.shape_of.Statement.{statement}
-use Rattle.sheet.proofs.shape.shape_of.Tie as tie
+use Rattle.sheet.proofs.shape.shape_verdict.Statement.{statement}
+use Rattle.sheet.proofs.shape.shape_verdict.Tie as tie
 
 abbrev Inv-loop : tie.InvT-loop
 Inv-loop sheet n tail i₀ i = (i ≤ n) × (firstOf (recordRules sheet i (n - i)) ≡ firstOf (shapeOrder sheet))
@@ -22,13 +23,12 @@ Inv-loop sheet n tail i₀ i = (i ≤ n) × (firstOf (recordRules sheet i (n - i
 abbrev μ-loop : tie.MeasureT-loop
 μ-loop sheet n tail i₀ i = n - i
 
-found : (k p : ℕ) {v w : Verdict} → v ≡ refuse k p → v ≡ w → refusalAt k p ≡ refusalOf w
-unfolding refusalOf
-found k p e q = ap refusalOf (sym e ∙ q)
+found : (k p : ℕ) {v w : Verdict} {r : Checked} → r ≡ checkedOf (refuse k p) → v ≡ refuse k p → v ≡ w → r ≡ checkedOf w
+found k p er e q = er ∙ ap checkedOf (sym e ∙ q)
 
-none : {v w : Verdict} → v ≡ clear → v ≡ w → refusalAt 0 0 ≡ refusalOf w
-unfolding refusalOf
-none e q = ap refusalOf (sym e ∙ q)
+none : {v w : Verdict} → v ≡ clear → v ≡ w → checked.Done ≡ checkedOf w
+unfolding answerOf
+none e q = ap checkedOf (sym e ∙ q)
 
 first-record : (sheet : List ℕ) → badLength (length sheet) ≡ false → firstOf (recordRules sheet 0 (recordCount sheet - 0)) ≡ firstOf (shapeOrder sheet)
 first-record sheet e = let z : recordCount sheet - 0 ≡ recordCount sheet = omega arith in rw z (sym (shape-long sheet e))
@@ -36,10 +36,13 @@ first-record sheet e = let z : recordCount sheet - 0 ≡ recordCount sheet = ome
 bad-length-requires : tie.Need-bad-length-requires Inv-loop μ-loop
 bad-length-requires c κs = search needs
 
+refused-requires : tie.Need-refused-requires Inv-loop μ-loop
+refused-requires c κs = search needs
+
 returns : tie.Need-returns Inv-loop μ-loop
 returns c =
-    let b = c .before in
-    found 7 0 (shape-short (b .before .before .args .sheet .now) (sym (b .bad-length .ensures) ∙ c .if1 .taken)) refl
+    let b = c .before .before in
+    found 7 0 (c .refused .ensures) (shape-short (b .before .before .args .sheet .now) (sym (b .bad-length .ensures) ∙ c .before .if1 .taken)) refl
 
 number-at-requires : tie.Need-number-at-requires Inv-loop μ-loop
 number-at-requires c κs =
@@ -55,7 +58,7 @@ loop-holds c =
     (omega arith, first-record (b .before .before .args .sheet .now) (sym (b .bad-length .ensures) ∙ e .if1 .left))
 
 is-misplaced-requires : tie.Need-is-misplaced-requires Inv-loop μ-loop
-unfolding fieldIn
+unfolding columnIn
 is-misplaced-requires c κs =
     let l = c .before in
     let t = l .before in
@@ -64,12 +67,15 @@ is-misplaced-requires c κs =
     let z = good-length (s .args .sheet .now) (sym (b .bad-length .ensures) ∙ t .before .if1 .left) in
     (refl, omega (arith, z .whole), t .number-at .ensures)
 
+refused-at-requires : tie.Need-refused-at-requires Inv-loop μ-loop
+refused-at-requires c κs = search needs
+
 returns-2 : tie.Need-returns-2 Inv-loop μ-loop
 returns-2 c =
-    let m = c .before in
+    let m = c .before .before in
     let l = m .before .before in
     let s = l .before .before .before .before .before in
-    found 8 (l .loop .i) (walk-misplaced (s .args .sheet .now) (l .loop .i) (recordCount (s .args .sheet .now)) (m .before .loop-test .taken) (sym (m .is-misplaced .ensures) ∙ c .if2 .taken)) (l .loop .inv .1)
+    found 8 (l .loop .i) (c .refused-at .ensures) (walk-misplaced (s .args .sheet .now) (l .loop .i) (recordCount (s .args .sheet .now)) (m .before .loop-test .taken) (sym (m .is-misplaced .ensures) ∙ c .before .if2 .taken)) (l .loop .inv .1)
 
 is-oversized-requires : tie.Need-is-oversized-requires Inv-loop μ-loop
 is-oversized-requires c κs =
@@ -80,14 +86,17 @@ is-oversized-requires c κs =
     let z = good-length (s .args .sheet .now) (sym (b .bad-length .ensures) ∙ t .before .if1 .left) in
     (refl, z .most, omega (arith, z .whole, c .before .before .loop-test .taken))
 
+refused-at-requires-2 : tie.Need-refused-at-requires-2 Inv-loop μ-loop
+refused-at-requires-2 c κs = search needs
+
 returns-3 : tie.Need-returns-3 Inv-loop μ-loop
 returns-3 c =
-    let o = c .before in
+    let o = c .before .before in
     let e = o .before in
     let m = e .before in
     let l = m .before .before in
     let s = l .before .before .before .before .before in
-    found 9 (l .loop .i) (walk-oversized (s .args .sheet .now) (l .loop .i) (recordCount (s .args .sheet .now)) (m .before .loop-test .taken) (sym (m .is-misplaced .ensures) ∙ e .if2 .left) (sym (o .is-oversized .ensures) ∙ c .if3 .taken)) (l .loop .inv .1)
+    found 9 (l .loop .i) (c .refused-at2 .ensures) (walk-oversized (s .args .sheet .now) (l .loop .i) (recordCount (s .args .sheet .now)) (m .before .loop-test .taken) (sym (m .is-misplaced .ensures) ∙ e .if2 .left) (sym (o .is-oversized .ensures) ∙ c .before .if3 .taken)) (l .loop .inv .1)
 
 add-i : tie.Need-add-i Inv-loop μ-loop
 add-i c = omega arith
@@ -112,19 +121,22 @@ returns-4 c =
     let s = l .before .before .before .before .before in
     none (walk-done (s .args .sheet .now) (l .loop .i) (recordCount (s .args .sheet .now)) (c .loop-test .left)) (l .loop .inv .1)
 
-pub shape-of-spec : {M : Type 1} → statement M
-shape-of-spec =
+pub shape-verdict-spec : {M : Type 1} → statement M
+shape-verdict-spec =
     tie.close
     (tie.spec
     Inv-loop
     μ-loop
     bad-length-requires
+    refused-requires
     returns
     number-at-requires
     loop-holds
     is-misplaced-requires
+    refused-at-requires
     returns-2
     is-oversized-requires
+    refused-at-requires-2
     returns-3
     add-i
     loop-less

@@ -1,4 +1,4 @@
--- `sheet::shape::load_rows` meets its contract. The invariant: the rows below i are read.
+-- `sheet::loading::load_rows` meets its contract. The invariant: the rows below i are read.
 -- The measure is the number of records left. Assumes nothing.
 use mathlib.Core.Path.{_≡_}
 use mathlib.Core.List.{List}
@@ -7,12 +7,12 @@ use native.Mathlib.Omega.{arith}
 use Rattle.gf2.specs.Limit.{limit}
 use Rattle.normal.specs.Normal.{padded}
 use Rattle.normal.specs.Filling.{Filled, filled-start, filled-turn, filled-padded}
-use Rattle.sheet.specs.Record.{recordCount, wordSize, fieldIn, rowsIn}
-use Rattle.sheet.proofs.shape.load_rows.Statement.{statement}
-use Rattle.sheet.proofs.shape.load_rows.Tie as tie
+use Rattle.sheet.specs.Record.{recordCount, wordSize, columnIn, rowsIn}
+use Rattle.sheet.proofs.loading.load_rows.Statement.{statement}
+use Rattle.sheet.proofs.loading.load_rows.Tie as tie
 
 abbrev row : (sheet : List ℕ) (at : ℕ) → ℕ → ℕ
-row sheet at i = fieldIn sheet i at wordSize
+row sheet at i = columnIn sheet i at wordSize
 
 abbrev Inv-loop : tie.InvT-loop
 Inv-loop sheet at rows₀ n i₀ rows i = (i ≤ recordCount sheet) × Filled rows i (row sheet at)
@@ -30,38 +30,38 @@ loop-holds : tie.Need-loop-holds Inv-loop μ-loop
 loop-holds c = (omega arith, filled-start (row (c .before .args .sheet .now) (c .before .args .at)))
 
 mul-number-at : tie.Need-mul-number-at Inv-loop μ-loop
-mul-number-at c = omega (arith, c .before .before .before .pre .0)
+mul-number-at c = omega (arith, c .before .before .before .pre .0 .size .most)
 
 add-number-at : tie.Need-add-number-at Inv-loop μ-loop
-add-number-at c = omega (arith, c .before .before .before .pre .0, c .before .before .before .pre .1)
+add-number-at c = omega (arith, c .before .before .before .pre .0 .size .most, c .before .before .before .pre .1)
 
 number-at-requires : tie.Need-number-at-requires Inv-loop μ-loop
 number-at-requires c κs = (omega (arith, c .before .before .before .pre .1), omega arith)
 
 mul-rows : tie.Need-mul-rows Inv-loop μ-loop
-mul-rows c = omega (arith, c .before .before .before .before .pre .0)
+mul-rows c = omega (arith, c .before .before .before .before .pre .0 .size .most)
 
 array-write-rows : tie.Need-array-write-rows Inv-loop μ-loop
-array-write-rows c = omega (arith, c .before .before .before .before .pre .0)
+array-write-rows c = omega (arith, c .before .before .before .before .pre .0 .size .most)
 
 add-i : tie.Need-add-i Inv-loop μ-loop
-add-i c = omega (arith, c .before .before .before .before .pre .0)
+add-i c = omega (arith, c .before .before .before .before .pre .0 .size .most)
 
 loop-less : tie.Need-loop-less Inv-loop μ-loop
 loop-less c = omega arith
 
 loop-again : tie.Need-loop-again Inv-loop μ-loop
-unfolding fieldIn
+unfolding columnIn
 loop-again c =
     let l = c .before .before in
     let s = l .before .before in
-    (omega arith, filled-turn (l .loop .rows) (l .loop .i) (c .number-at .result) (row (s .args .sheet .now) (s .args .at)) (omega (arith, s .pre .0)) (c .number-at .ensures) (l .loop .inv .1))
+    (omega arith, filled-turn (l .loop .rows) (l .loop .i) (c .number-at .result) (row (s .args .sheet .now) (s .args .at)) (omega (arith, s .pre .0 .size .most)) (c .number-at .ensures) (l .loop .inv .1))
 
 returns : tie.Need-returns Inv-loop μ-loop
 returns c =
     let l = c .before in
     let s = l .before .before in
-    done (s .args .sheet .now) (s .args .at) (l .loop .i) (l .loop .rows) (s .pre .0) (c .loop-test .left) (l .loop .inv)
+    done (s .args .sheet .now) (s .args .at) (l .loop .i) (l .loop .rows) (s .pre .0 .size .most) (c .loop-test .left) (l .loop .inv)
 
 pub load-rows-spec : {M : Type 1} → statement M
 load-rows-spec =

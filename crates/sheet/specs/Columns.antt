@@ -1,4 +1,4 @@
--- The fields of a sheet that was written: each holds the number that was put there.
+-- The columns of a sheet that was written: each holds the number that was put there.
 -- Assumes nothing.
 use mathlib.Core.Path.{_≡_, refl, sym, ap, _∙_}
 use mathlib.Core.Logic.{⊎-elim}
@@ -9,7 +9,7 @@ use native.Mathlib.Omega.{arith}
 use lib.ListN.{length, getD, take, drop}
 use lib.Seq.{take-at, drop-at, take-take, drop-drop}
 use Rattle.gf2.specs.Numbers.{order}
-use Rattle.sheet.specs.Record.{recordSize, degreeAt, rowAt, tailAt, conjugateAt, inverseAt, tableAt, byteSize, tailSize, wordSize, bytesOf, numberIn, recordBytes, recordsTo, recordAt, fieldIn}
+use Rattle.sheet.specs.Record.{recordSize, degreeAt, rowAt, tailAt, conjugateAt, inverseAt, tableAt, byteSize, tailSize, wordSize, bytesOf, numberIn, recordBytes, recordsTo, recordAt, columnIn}
 use Rattle.sheet.specs.Bytes.{numberIn-bytesOf}
 use Rattle.sheet.specs.Writing.{recordBytes-length, recordsTo-length}
 use Rattle.sheet.specs.Reading.{recordAt-front}
@@ -36,7 +36,7 @@ recordAt-written (suc m) k n tail C I T h =
     rw e (recordAt-last xs last m size (recordBytes-length n m tail (getD C m 0) (getD I m 0) (getD T m 0))))
     (order k m)
 
--- ---- a field of a record
+-- ---- a column of a record
 
 take-drop-take : (l : List ℕ) (at size : ℕ) → at + size ≤ recordSize → take size (drop at (take recordSize l)) ≡ take size (drop at l)
 take-drop-take l at size h = go at recordSize l h
@@ -47,47 +47,50 @@ take-drop-take l at size h = go at recordSize l h
     go (suc at) (suc m) [] h = refl
     go (suc at) (suc m) (x ∷ l) h = go at m l (omega arith)
 
-pub field-record : (sheet : List ℕ) (i at size : ℕ) → at + size ≤ recordSize → fieldIn sheet i at size ≡ numberIn (take size (drop at (recordAt sheet i)))
-unfolding fieldIn recordAt
-field-record sheet i at size h =
+pub column-record : (sheet : List ℕ) (i at size : ℕ) → at + size ≤ recordSize → columnIn sheet i at size ≡ numberIn (take size (drop at (recordAt sheet i)))
+unfolding columnIn recordAt
+column-record sheet i at size h =
     ap (λ (l : List ℕ). numberIn (take size l)) (sym (drop-drop at (recordSize * i) sheet))
     ∙ sym (ap numberIn (take-drop-take (drop (recordSize * i) sheet) at size h))
 
 module _ (n i tail c v t : ℕ) where
-  -- the record with each field in turn in the middle
-  record-fields : (take 1 (drop 0 (recordBytes n i tail c v t)) ≡ bytesOf 1 n) × (take 1 (drop 1 (recordBytes n i tail c v t)) ≡ bytesOf 1 i)
-      × (take 6 (drop 2 (recordBytes n i tail c v t)) ≡ bytesOf 6 tail) × (take 8 (drop 8 (recordBytes n i tail c v t)) ≡ bytesOf 8 c)
-      × (take 8 (drop 16 (recordBytes n i tail c v t)) ≡ bytesOf 8 v) × (take 8 (drop 24 (recordBytes n i tail c v t)) ≡ bytesOf 8 t)
+  -- the record with each column in turn in the middle
+  record-columns : (take byteSize (drop degreeAt (recordBytes n i tail c v t)) ≡ bytesOf byteSize n)
+      × (take byteSize (drop rowAt (recordBytes n i tail c v t)) ≡ bytesOf byteSize i)
+      × (take tailSize (drop tailAt (recordBytes n i tail c v t)) ≡ bytesOf tailSize tail)
+      × (take wordSize (drop conjugateAt (recordBytes n i tail c v t)) ≡ bytesOf wordSize c)
+      × (take wordSize (drop inverseAt (recordBytes n i tail c v t)) ≡ bytesOf wordSize v)
+      × (take wordSize (drop tableAt (recordBytes n i tail c v t)) ≡ bytesOf wordSize t)
   unfolding recordBytes bytesOf
-  record-fields = (refl, refl, refl, refl, refl, refl)
+  record-columns = (refl, refl, refl, refl, refl, refl)
 
--- ---- the fields of a written sheet
+-- ---- the columns of a written sheet
 
 module _ (m k n tail : ℕ) (C I T : List ℕ) (h : k < m) where
   abbrev whole : List ℕ
   whole = recordsTo m n tail C I T
 
   at-record : (at size v : ℕ) → at + size ≤ recordSize → v < 256 ^ size
-      → take size (drop at (recordBytes n k tail (getD C k 0) (getD I k 0) (getD T k 0))) ≡ bytesOf size v → fieldIn whole k at size ≡ v
+      → take size (drop at (recordBytes n k tail (getD C k 0) (getD I k 0) (getD T k 0))) ≡ bytesOf size v → columnIn whole k at size ≡ v
   at-record at size v fits small e =
-      field-record whole k at size fits
+      column-record whole k at size fits
       ∙ ap (λ (l : List ℕ). numberIn (take size (drop at l))) (recordAt-written m k n tail C I T h)
       ∙ ap numberIn e ∙ numberIn-bytesOf size v small
 
-  pub degree-written : n < 256 → fieldIn whole k degreeAt byteSize ≡ n
-  degree-written b = at-record 0 1 n (omega arith) b (record-fields n k tail (getD C k 0) (getD I k 0) (getD T k 0) .0)
+  pub degree-written : n < 256 ^ byteSize → columnIn whole k degreeAt byteSize ≡ n
+  degree-written b = at-record degreeAt byteSize n (omega arith) b (record-columns n k tail (getD C k 0) (getD I k 0) (getD T k 0) .0)
 
-  pub row-written : k < 256 → fieldIn whole k rowAt byteSize ≡ k
-  row-written b = at-record 1 1 k (omega arith) b (record-fields n k tail (getD C k 0) (getD I k 0) (getD T k 0) .1)
+  pub row-written : k < 256 ^ byteSize → columnIn whole k rowAt byteSize ≡ k
+  row-written b = at-record rowAt byteSize k (omega arith) b (record-columns n k tail (getD C k 0) (getD I k 0) (getD T k 0) .1)
 
-  pub tail-written : tail < 256 ^ 6 → fieldIn whole k tailAt tailSize ≡ tail
-  tail-written b = at-record 2 6 tail (omega arith) b (record-fields n k tail (getD C k 0) (getD I k 0) (getD T k 0) .2)
+  pub tail-written : tail < 256 ^ tailSize → columnIn whole k tailAt tailSize ≡ tail
+  tail-written b = at-record tailAt tailSize tail (omega arith) b (record-columns n k tail (getD C k 0) (getD I k 0) (getD T k 0) .2)
 
-  pub conjugate-written : getD C k 0 < 256 ^ 8 → fieldIn whole k conjugateAt wordSize ≡ getD C k 0
-  conjugate-written b = at-record 8 8 (getD C k 0) (omega arith) b (record-fields n k tail (getD C k 0) (getD I k 0) (getD T k 0) .3)
+  pub conjugate-written : getD C k 0 < 256 ^ wordSize → columnIn whole k conjugateAt wordSize ≡ getD C k 0
+  conjugate-written b = at-record conjugateAt wordSize (getD C k 0) (omega arith) b (record-columns n k tail (getD C k 0) (getD I k 0) (getD T k 0) .3)
 
-  pub inverse-written : getD I k 0 < 256 ^ 8 → fieldIn whole k inverseAt wordSize ≡ getD I k 0
-  inverse-written b = at-record 16 8 (getD I k 0) (omega arith) b (record-fields n k tail (getD C k 0) (getD I k 0) (getD T k 0) .4)
+  pub inverse-written : getD I k 0 < 256 ^ wordSize → columnIn whole k inverseAt wordSize ≡ getD I k 0
+  inverse-written b = at-record inverseAt wordSize (getD I k 0) (omega arith) b (record-columns n k tail (getD C k 0) (getD I k 0) (getD T k 0) .4)
 
-  pub table-written : getD T k 0 < 256 ^ 8 → fieldIn whole k tableAt wordSize ≡ getD T k 0
-  table-written b = at-record 24 8 (getD T k 0) (omega arith) b (record-fields n k tail (getD C k 0) (getD I k 0) (getD T k 0) .5)
+  pub table-written : getD T k 0 < 256 ^ wordSize → columnIn whole k tableAt wordSize ≡ getD T k 0
+  table-written b = at-record tableAt wordSize (getD T k 0) (omega arith) b (record-columns n k tail (getD C k 0) (getD I k 0) (getD T k 0) .5)

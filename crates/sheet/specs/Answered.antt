@@ -1,0 +1,25 @@
+-- The answers of build and reading, by their verdict: what both clauses of a promise say follows from the first.
+-- Assumes nothing.
+use mathlib.Core.Path.{_≡_, refl, ap, _∙_}
+use Prim.Native.Nat.{ℕ}
+use native.Mathlib.Omega.{arith}
+use Rattle.refusals.specs.Verdicts.{Verdict, clear, refuse}
+use Rattle.refusals.specs.Answers.{answerOf}
+use Rattle.sheet.specs.Answers.{issueOf, issuedOf, issuedReport}
+use Rattle.sheet.specs.declared.answer.Summary.{Summary}
+use Rattle.sheet.specs.declared.answer.Issued.{Issued}
+use Rattle.sheet.specs.declared.answer.Issued.the-variants as issued
+
+pub issued-report : (v : Verdict) (s : Summary) → issuedReport (issuedOf v s) ≡ issueOf v s
+unfolding answerOf issuedReport issueOf
+issued-report clear s = refl
+issued-report (refuse k p) s = refl
+
+pub issued-promised : (v : Verdict) (s : Summary) {r : Issued} → r ≡ issuedOf v s → (r ≡ issuedOf v s) × (issuedReport r ≡ issueOf v s)
+issued-promised v s e = (e, ap issuedReport e ∙ issued-report v s)
+
+-- a verdict that issues is clear
+pub done-clear : (v : Verdict) (s t : Summary) → issuedOf v s ≡ issued.Done t → v ≡ clear
+unfolding answerOf
+done-clear clear s t e = refl
+done-clear (refuse k p) s t e = let z : _≡_ {A = ℕ} 0 1 = cc in absurd (omega arith)
