@@ -3,8 +3,7 @@
 ghost use mathlib.Core.Path.{_≡_};
 ghost use lib.ListN.{length};
 ghost use Rattle.field.specs.Answers.{checkReport, multiplyReport, squareReport, traceReport};
-ghost use Rattle.sheet.specs.Record.{conjugateAt, inverseAt};
-ghost use Rattle.sheet.specs.Answers.{buildReport, builtBuffer, readReport, polynomialReport, normalReport, timesReport, listReport, convertedList};
+ghost use Rattle.sheet.specs.Answers.{buildReport, builtBuffer, readReport, polynomialReport, normalReport, timesReport, polynomialListReport, polynomialList, normalListReport, normalList};
 ghost use Rattle.search.specs.Answers.{searchAnswer, searchReport};
 ghost use Rattle.capi.specs.Answers.{deskValue, deskIssued, deskFound, foundFlag};
 use super::answer::DeskFound;
@@ -83,8 +82,8 @@ pub extern "C" fn desk_to_normal(sheet: &[u8], element: u64) -> DeskValue
 // The elements that a list of normal coordinates stands for.
 #[no_mangle]
 pub extern "C" fn desk_list_to_polynomial(sheet: &[u8], from: &[u64], into: &mut [u64]) -> DeskValue
-    ensures answer { λ r. ⌜ r ≡ deskValue (listReport (now (sheet .entry)) (now (from .entry)) (length (now (into .entry)))) ⌝ }
-    ensures written { λ r. ⌜ now (into .exit) ≡ convertedList (now (sheet .entry)) conjugateAt (now (from .entry)) (now (into .entry)) ⌝ }
+    ensures answer { λ r. ⌜ r ≡ deskValue (polynomialListReport (now (sheet .entry)) (now (from .entry)) (length (now (into .entry)))) ⌝ }
+    ensures written { λ r. ⌜ now (into .exit) ≡ polynomialList (now (sheet .entry)) (now (from .entry)) (now (into .entry)) ⌝ }
 {
     checked_out(sheet::list_to_polynomial(sheet, from, into))
 }
@@ -92,8 +91,8 @@ pub extern "C" fn desk_list_to_polynomial(sheet: &[u8], from: &[u64], into: &mut
 // The normal coordinates of a list of elements.
 #[no_mangle]
 pub extern "C" fn desk_list_to_normal(sheet: &[u8], from: &[u64], into: &mut [u64]) -> DeskValue
-    ensures answer { λ r. ⌜ r ≡ deskValue (listReport (now (sheet .entry)) (now (from .entry)) (length (now (into .entry)))) ⌝ }
-    ensures written { λ r. ⌜ now (into .exit) ≡ convertedList (now (sheet .entry)) inverseAt (now (from .entry)) (now (into .entry)) ⌝ }
+    ensures answer { λ r. ⌜ r ≡ deskValue (normalListReport (now (sheet .entry)) (now (from .entry)) (length (now (into .entry)))) ⌝ }
+    ensures written { λ r. ⌜ now (into .exit) ≡ normalList (now (sheet .entry)) (now (from .entry)) (now (into .entry)) ⌝ }
 {
     checked_out(sheet::list_to_normal(sheet, from, into))
 }

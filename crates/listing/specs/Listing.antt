@@ -1,21 +1,20 @@
 -- The whole listing: its lines by what reading answers, and its size.
 -- Assumes nothing.
-use mathlib.Core.Path.{_≡_, sym, ap, _∙_}
+use mathlib.Core.Path.{_≡_, sym, ap}
 use mathlib.Core.List.{List, _++_}
 use Prim.Native.Nat.{ℕ}
 use native.Mathlib.Omega.{arith}
 use lib.ListN.{length, drop, length-append}
 use lib.Seq.{take-append-seam}
 use Rattle.io.specs.Counts.{Counts}
-use Rattle.refusals.specs.Verdicts.{clear, firstOf}
+use Rattle.refusals.specs.Verdicts.{firstOf}
 use Rattle.refusals.specs.declared.answer.Refusal.{Refusal}
 use Rattle.normal.specs.Grades.{gradeNumber}
-use Rattle.sheet.specs.Record.{recordCount, conjugateIn, polynomialIn}
-use Rattle.sheet.specs.Orders.{basisOrder, differRules, rebuiltFrom, shapeOrder}
-use Rattle.sheet.specs.Answers.{done-clear, summaryOf, readAnswer}
-use Rattle.refusals.specs.Orders.{first-append}
-use Rattle.sheet.specs.Verdicts.{then-clear}
-use Rattle.sheet.specs.Shape.{Sized}
+use Rattle.refusals.specs.Orders.{parts-clear}
+use Rattle.sheet.specs.Record.{recordCount}
+use Rattle.sheet.specs.Orders.{shapeOrder, rebuildOrder, readOrder, Sized}
+use Rattle.sheet.specs.Answers.{summaryIn, readAnswer}
+use Rattle.sheet.specs.Answered.{done-clear}
 use Rattle.sheet.specs.Clear.{clear-shaped}
 use Rattle.sheet.specs.declared.answer.Summary.{Summary}
 use Rattle.sheet.specs.declared.answer.Issued.the-variants as issued
@@ -27,13 +26,7 @@ use Rattle.listing.specs.Putting.{Put, put-then, put-front}
 pub done-sized : (sheet : List ℕ) (s : Summary) → readAnswer sheet ≡ issued.Done s → Sized sheet
 unfolding readAnswer
 done-sized sheet s e =
-    let f : ℕ = polynomialIn sheet in
-    let n : ℕ = recordCount sheet in
-    let a : ℕ = conjugateIn sheet 0 in
-    let rest = basisOrder f n a ++ differRules sheet (rebuiltFrom sheet) 0 n in
-    let c : firstOf (shapeOrder sheet ++ rest) ≡ clear = done-clear (firstOf (shapeOrder sheet ++ rest)) (summaryOf f n a) s e in
-    clear-shaped sheet (then-clear (firstOf (shapeOrder sheet)) (firstOf rest) (sym (first-append (shapeOrder sheet) rest) ∙ c) .0)
-    .size
+    clear-shaped sheet (parts-clear (shapeOrder sheet) (rebuildOrder sheet) (done-clear (firstOf (readOrder sheet)) (summaryIn sheet) s e) .0) .size
 
 -- ---- the lines that are put are the listing
 

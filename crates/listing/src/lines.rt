@@ -10,12 +10,7 @@ use super::putting::put_bytes;
 use super::putting::put_number;
 use normal::Grade;
 use normal::grade_number;
-use sheet::CONJUGATE_AT;
-use sheet::INVERSE_AT;
-use sheet::RECORD;
-use sheet::TABLE_AT;
-use sheet::WORD;
-use sheet::number_at;
+use sheet::row_at;
 
 const SPACE: u8 = 32;
 
@@ -27,14 +22,11 @@ fn put_row(text: &mut [u8], at: usize, sheet: &[u8], i: usize) -> usize
     ensures put { λ r. ⌜ Put (now (text .entry)) at (rowLine (now (sheet .entry)) i) (now (text .exit)) r ⌝ }
     ensures short { λ r. ⌜ r ≤ at + rowRoom ⌝ }
 {
-    let start = RECORD * i;
-    let conjugate = number_at(sheet, start + CONJUGATE_AT, WORD);
-    let inverse = number_at(sheet, start + INVERSE_AT, WORD);
-    let table = number_at(sheet, start + TABLE_AT, WORD);
+    let row = row_at(sheet, i);
     let second = put_number(text, at, i as u64, SPACE);
-    let third = put_number(text, second, conjugate, SPACE);
-    let fourth = put_number(text, third, inverse, SPACE);
-    put_number(text, fourth, table, NEWLINE)
+    let third = put_number(text, second, row.conjugate, SPACE);
+    let fourth = put_number(text, third, row.inverse, SPACE);
+    put_number(text, fourth, row.table, NEWLINE)
 }
 
 // The first n rows, at the text's front.

@@ -1,32 +1,15 @@
 -- `listing::lines::put_row` meets its contract: the four numbers, each after the one before.
 -- Assumes nothing.
+use mathlib.Core.Path.{ap}
 use native.Mathlib.Omega.{arith}
 use borrow.Author.Needs.{needs}
-use Rattle.sheet.specs.Record.{fieldIn}
+use Rattle.sheet.specs.declared.loading.Row.{Row}
 use Rattle.listing.specs.Lines.{row-put}
 use Rattle.listing.proofs.lines.put_row.Statement.{statement}
 use Rattle.listing.proofs.lines.put_row.Tie as tie
 
-mul-start : tie.Need-mul-start
-mul-start c = search needs
-
-add-number-at : tie.Need-add-number-at
-add-number-at c = search needs
-
-number-at-requires : tie.Need-number-at-requires
-number-at-requires c κs = search needs
-
-add-number-at-2 : tie.Need-add-number-at-2
-add-number-at-2 c = search needs
-
-number-at-requires-2 : tie.Need-number-at-requires-2
-number-at-requires-2 c κs = search needs
-
-add-number-at-3 : tie.Need-add-number-at-3
-add-number-at-3 c = search needs
-
-number-at-requires-3 : tie.Need-number-at-requires-3
-number-at-requires-3 c κs = search needs
+row-at-requires : tie.Need-row-at-requires
+row-at-requires c κs = search needs
 
 put-number-requires : tie.Need-put-number-requires
 put-number-requires c κs = search needs
@@ -44,17 +27,15 @@ same-length : tie.Need-same-length
 same-length c = search needs
 
 returns : tie.Need-returns
-unfolding fieldIn
 returns c =
     let p4 = c .before .before in
     let p3 = p4 .before .before .before .before in
     let p2 = p3 .before .before .before .before in
     let p1 = p2 .before .before .before .before in
-    let n3 = p1 .before .before in
-    let n2 = n3 .before in
-    let n1 = n2 .before in
-    let s = n1 .before .before .before in (
-      row-put (s .args .sheet .now) (s .args .i) (n1 .number-at .ensures) (n2 .number-at2 .ensures) (n3 .number-at3 .ensures)
+    let r = p1 .before .before in
+    let s = r .before .before .before in (
+      row-put (s .args .sheet .now) (s .args .i)
+          (ap (λ (x : Row). x .conjugate) (r .row-at .ensures)) (ap (λ (x : Row). x .inverse) (r .row-at .ensures)) (ap (λ (x : Row). x .table) (r .row-at .ensures))
           (p1 .put-number .ensures .0) (p2 .put-number2 .ensures .0) (p3 .put-number3 .ensures .0) (p4 .put-number4 .ensures .0),
       omega (arith, p1 .put-number .ensures .1, p2 .put-number2 .ensures .1, p3 .put-number3 .ensures .1, p4 .put-number4 .ensures .1),
     )
@@ -63,13 +44,7 @@ pub put-row-spec : {M : Type 1} → statement M
 put-row-spec =
     tie.close
     (tie.spec
-    mul-start
-    add-number-at
-    number-at-requires
-    add-number-at-2
-    number-at-requires-2
-    add-number-at-3
-    number-at-requires-3
+    row-at-requires
     put-number-requires
     put-number-requires-2
     put-number-requires-3

@@ -39,7 +39,7 @@ slice-read-sum c = omega arith
 sum-requires : tie.Need-sum-requires Inv-loop μ-loop
 sum-requires c κs =
     let l = c .before .before in
-    let h = c .before .loop-test .taken in
+    let h : l .loop .i < length (l .loop .list) = omega arith in
     rw (waiting l h) (l .before .before .pre (l .loop .i) (omega (arith, kept l)))
 
 mul-list : tie.Need-mul-list Inv-loop μ-loop
@@ -58,8 +58,9 @@ loop-again : tie.Need-loop-again Inv-loop μ-loop
 loop-again c =
     let l = c .before .before .before in
     let s = l .before .before in
+    let w : l .loop .i < length (l .loop .list) = omega arith in
     let h : l .loop .i < length (s .args .list .now) = omega (arith, kept l) in
-    (omega (arith, h), fill-turn (comb (s .args .rows .now)) (s .args .list .now) (s .args .list .now) (l .loop .list) (l .loop .i) (c .sum .result) h refl (c .sum .ensures ∙ ap (comb (s .args .rows .now)) (waiting l (c .before .before .loop-test .taken))) (l .loop .inv .1))
+    (omega (arith, h), fill-turn (comb (s .args .rows .now)) (s .args .list .now) (s .args .list .now) (l .loop .list) (l .loop .i) (c .sum .result) h refl (c .sum .ensures ∙ ap (comb (s .args .rows .now)) (waiting l w)) (l .loop .inv .1))
 
 same-length : tie.Need-same-length Inv-loop μ-loop
 same-length c = kept (c .before)
