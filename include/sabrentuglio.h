@@ -1,45 +1,57 @@
 /*
- * The desk's calls for C and C++: fields of 2^n elements, n from 2 to 46, and the sheets of their normal bases.
+ * The desk's calls for C and C++: fields of 2^n elements, n from 2 to 46, and the sheets of their
+ * normal bases. docs/CALLS.md has the same calls with examples.
  *
- * A polynomial over the two-element field is a number: bit i is the coefficient of x^i. f is the defining polynomial and n its
- * degree. An element is a number below 2^n. Normal coordinates are a number below 2^n too, whose set bit i picks conjugate i.
+ * A polynomial over the two-element field is a number: bit i is the coefficient of x^i. f is the
+ * defining polynomial and n its degree. An element is a number below 2^n. Conjugate i of an
+ * element, written c_i, is the element squared i times. Normal coordinates are a number below 2^n
+ * whose set bits i pick the conjugates to be summed.
  *
- * A sheet is n records of 32 bytes, in row order, with nothing before or behind them. Numbers in it are little-endian:
+ * A sheet is n records of 32 bytes, in row order, with nothing before or after them. Its numbers
+ * are little-endian:
  *
  *    bytes    content of record i
  *    0        the degree n
  *    1        the row number i
  *    2-7      f without its term x^n
- *    8-15     conjugate row: the element squared i times
+ *    8-15     conjugate row: c_i, the element squared i times
  *    16-23    inverse row: the normal coordinates of x^i
- *    24-31    table row: the normal coordinates of conjugate 0 times conjugate i
+ *    24-31    table row: the normal coordinates of c_0 times c_i
  *
- * Every call takes any numbers. Its answer is 0 in `number` where the call is done, else the number of the first refusal, in the
- * call's order, that applies:
+ * Every call takes any numbers. It returns 0 in `number` if it is done, else the number of the
+ * first refusal in the call's order that applies:
  *
- *    no.  given exactly when                                                            place
- *     1   the degree of f is below 2 or above 46; f = 0 too                             0
- *     2   some polynomial of degree 1 to n-1 divides f                                  0
- *     3   x squared n times in a row modulo f is not x again                            0
- *     4   an element, a coordinate number or an end of a range is 2^n or more           the first such index in a list, else 0
- *     5   the element is not normal                                                     0
- *     6   the buffer is shorter than 32n bytes                                          0
- *     7   the sheet's length is not 32 times a count of 2 to 46                         0
- *     8   a record's degree is not the count of records, its row number is not its
- *         place, or its bytes 2-7 differ from those of record 0                         the record
- *     9   a record's bytes 2-7, or one of its three rows, is 2^n or more                the record
- *    10   a record differs from the one that is rebuilt                                 the first such record
- *    11   the lengths of two lists differ, or exceed 4,096                              0
- *    12   the first of a range is greater than the last                                 0
+ *    number  given exactly when                                        place
+ *    1       the degree of f is below 2 or above 46; this includes     0
+ *            f = 0
+ *    2       some polynomial of degree 1 to n-1 divides f              0
+ *    3       x squared n times in a row is not x again modulo f        0
+ *    4       an element, a coordinate number or an end of a range is   the first such index
+ *            2^n or more                                               in a list, else 0
+ *    5       the element is not normal                                 0
+ *    6       the buffer to be written is shorter than 32n bytes        0
+ *    7       the sheet's length is not 32 times a count of 2 to 46     0
+ *    8       a record's degree is not the number of records, its row   the record
+ *            number is not its place, or its bytes 2-7 differ from
+ *            those of record 0
+ *    9       a record's bytes 2-7, or one of its three rows, is 2^n    the record
+ *            or more
+ *    10      a record differs from the one rebuilt                     the first such record
+ *    11      the lengths of the two lists differ, or exceed 4,096      0
+ *    12      the first of the range is greater than the last           0
  *
- * A refusal has zeros in all but number and place, and all lent memory stays as it came. A call that is done has place 0.
+ * A call that is done has place 0. A refusal has zeros in all but number and place, and all memory
+ * that the call borrowed is unchanged.
  *
- * What is asked of a caller:
- *   - a pointer is not null, not even at length 0, is aligned for its type, and is valid for its length (for reading behind
- *     `const`, else for reading and writing): bytes for a sheet and a buffer, values for a list;
- *   - memory lent for writing (`buffer`, `into`) overlaps nothing else that the same call is handed, so neither a sheet nor `from`;
- *   - nothing else writes handed memory, or reads `buffer` or `into`, while the call runs.
- * No call keeps a pointer, allocates, or has state of its own: calls on memory of their own may run at the same time.
+ * What the caller must do:
+ *   - A pointer is not null, not even at length 0. It is aligned for its type and valid for its
+ *     length: for reading if it is `const`, else for reading and writing. Lengths are in bytes for
+ *     a sheet and a buffer, in values for a list.
+ *   - Memory that a call writes (`buffer`, `into`) overlaps nothing else that the same call
+ *     borrows, neither a sheet nor `from`.
+ *   - While the call runs, nothing else writes memory that it borrows, or reads `buffer` or `into`.
+ * No call keeps a pointer, allocates, or has state of its own. Within these rules several calls may
+ * run at the same time.
  *
  * Link libcapi.a (x86-64 Linux).
  */
@@ -53,7 +65,7 @@
 extern "C" {
 #endif
 
-/* The answer of a call that has one value; `value` is 0 for a call that has none. */
+/* The result of a call with one value. `value` is 0 for a call that has none. */
 typedef struct desk_value {
     uint64_t number;
     uint64_t place;
@@ -61,9 +73,13 @@ typedef struct desk_value {
 } desk_value;
 
 /*
- * The answer of desk_build and desk_read: the degree n, and the complexity and grade of the basis. The complexity is the number
- * of ones in the n table rows. Grade 0: it is not 2n-1. Grade 1: it is 2n-1 and n+1 is prime. Grade 2: it is 2n-1 and n+1 is
- * not prime.
+ * The result of desk_build and desk_read: the degree n, and the complexity and grade of the basis.
+ * The complexity is the number of ones in the n table rows.
+ *
+ *    grade   given exactly when
+ *    0       the complexity is not 2n-1
+ *    1       the complexity is 2n-1, and n+1 is prime
+ *    2       the complexity is 2n-1, and n+1 is not prime
  */
 typedef struct desk_issued {
     uint64_t number;
@@ -74,11 +90,11 @@ typedef struct desk_issued {
 } desk_issued;
 
 /*
- * The answer of desk_search, one of three:
- *   refused   number is the refusal's, all else is 0 (every place is 0, and is left out);
+ * The result of desk_search, one of three:
+ *   refused   number is the refusal's and all else is 0; the place is always 0 and has no member;
  *   nothing   all is 0: no normal class leader lies in the range;
- *   found     number is 0 and found is 1; element, its complexity and grade as above, and count, how many normal class leaders
- *             lie in the range.
+ *   found     number is 0 and found is 1; then element, its complexity and grade as above, and
+ *             count, the number of normal class leaders in the range.
  */
 typedef struct desk_found {
     uint64_t number;
@@ -90,85 +106,89 @@ typedef struct desk_found {
 } desk_found;
 
 /*
- * Whether f is accepted: number 0 where it is. value is always 0.
+ * Checks whether f is accepted: its degree is 2 to 46, no polynomial of degree 1 to n-1 divides it,
+ * and x squared n times in a row is x again. number is 0 if it is; value is always 0.
  * Refusals in order: 1, 2, 3.
  */
 desk_value desk_check(uint64_t f);
 
 /*
- * a times b modulo f, for any f of degree 2 to 46, accepted or not.
+ * Returns a times b modulo f, for any f of degree 2 to 46, accepted or not.
  * Refusals in order: 1, 4 (a or b).
  */
 desk_value desk_multiply(uint64_t f, uint64_t a, uint64_t b);
 
 /*
- * a times a modulo f, for any f of degree 2 to 46, accepted or not.
+ * Returns a times a modulo f, for any f of degree 2 to 46, accepted or not.
  * Refusals in order: 1, 4.
  */
 desk_value desk_square(uint64_t f, uint64_t a);
 
 /*
- * The trace of a: the sum of its n conjugates, 0 or 1.
+ * Returns the trace of a: the sum of its n conjugates, 0 or 1.
  * Refusals in order: 1, 4, 2, 3.
  */
 desk_value desk_trace(uint64_t f, uint64_t a);
 
 /*
- * Builds the sheet of f and the element. Where it is done, the first 32n bytes of the buffer are the sheet, and those behind them
- * stay; 1,472 bytes are enough for every f. Where it is refused, the whole buffer stays.
+ * Writes the sheet of f and the element into the first 32n bytes of `buffer`, and returns its
+ * degree, complexity and grade. Bytes after the sheet are unchanged; on a refusal the whole buffer
+ * is. 1,472 bytes are enough for every f.
  * Refusals in order: 1, 4, 6, 2, 3, 5.
  */
 desk_issued desk_build(uint64_t f, uint64_t element, uint8_t *buffer, size_t length);
 
 /*
- * Reads a sheet and rebuilds it: done exactly for the sheets that desk_build writes, handed in at their own length. Writes nothing.
- * Refusals in order: 7; then, for each record from 0 upward, 8 before 9; then 2 and 3 for the sheet's polynomial and 5 for the
- * conjugate of its record 0; then 10.
+ * Returns degree, complexity and grade of a sheet. It is done exactly for the sheets that
+ * desk_build writes, at their own length: it rebuilds the sheet and compares. Writes nothing.
+ * Refusals in order: 7; then, for each record from 0 upward, 8 before 9; then 2 and 3 for the
+ * sheet's polynomial and 5 for the conjugate of its record 0; then 10.
  */
 desk_issued desk_read(const uint8_t *sheet, size_t length);
 
 /*
- * The element that normal coordinates stand for: the sum (exclusive or) of the sheet's conjugate rows that their bits pick. The
- * rows are taken as they stand and not rebuilt; they mean the coordinates' element on the sheets that desk_read accepts. Writes
- * nothing.
+ * Returns the element that has these normal coordinates: the sum (exclusive or) of the sheet's
+ * conjugate rows that the bits pick. The call uses the rows as they stand and does not rebuild
+ * them; they are right on the sheets that desk_read accepts. Writes nothing.
  * Refusals in order: 7; then, for each record from 0 upward, 8 before 9; then 4.
  */
 desk_value desk_to_polynomial(const uint8_t *sheet, size_t length, uint64_t coordinates);
 
 /*
- * The normal coordinates of an element: the sum of the sheet's inverse rows that its bits pick, taken as they stand and not
- * rebuilt. Writes nothing.
+ * Returns the normal coordinates of an element: the sum of the sheet's inverse rows that its bits
+ * pick. The call uses the rows as they stand and does not rebuild them. Writes nothing.
  * Refusals in order: 7; then, for each record from 0 upward, 8 before 9; then 4.
  */
 desk_value desk_to_normal(const uint8_t *sheet, size_t length, uint64_t element);
 
 /*
- * desk_to_polynomial for every value of a list: into[i] is the element that from[i] stands for. At most 4,096 values; the two
- * lengths are equal; an empty list is converted to an empty list. value is always 0. Where it is done, all of `into` is written;
- * where it is refused, all of it stays.
- * Refusals in order: 7; then, for each record from 0 upward, 8 before 9; then 11; then 4, whose place is the first index of
- * `from` with such a value.
+ * Converts every value of a list as desk_to_polynomial does: into[i] becomes the element that has
+ * the coordinates from[i]. The two lists have the same length, at most 4,096; an empty list becomes
+ * an empty list. value is always 0. On a refusal `into` is unchanged.
+ * Refusals in order: 7; then, for each record from 0 upward, 8 before 9; then 11; then 4, whose
+ * place is the index of the first value of `from` that is too large.
  */
 desk_value desk_list_to_polynomial(const uint8_t *sheet, size_t length, const uint64_t *from, size_t from_count,
                                    uint64_t *into, size_t into_count);
 
 /*
- * desk_to_normal for every value of a list: into[i] is the normal coordinates of from[i]. Lengths, value, what is written and what
- * stays, and the refusals are those of desk_list_to_polynomial.
+ * Converts every value of a list as desk_to_normal does: into[i] becomes the normal coordinates of
+ * from[i]. Lengths, value and refusals are those of desk_list_to_polynomial.
  */
 desk_value desk_list_to_normal(const uint8_t *sheet, size_t length, const uint64_t *from, size_t from_count,
                                uint64_t *into, size_t into_count);
 
 /*
- * The product of normal coordinates a and b, in normal coordinates, by the sheet's table rows, taken as they stand and not
- * rebuilt. Writes nothing.
+ * Returns the product of normal coordinates a and b, in normal coordinates, by the sheet's table
+ * rows. The call uses the rows as they stand and does not rebuild them. Writes nothing.
  * Refusals in order: 7; then, for each record from 0 upward, 8 before 9; then 4 (a or b).
  */
 desk_value desk_times(const uint8_t *sheet, size_t length, uint64_t a, uint64_t b);
 
 /*
- * The normal basis of least complexity among the class leaders from first to last, both included; of several the one of the
- * smallest element. A class leader is an element that is the smallest of its own conjugates. The work grows with the range.
+ * Returns the normal basis of least complexity among the class leaders from first to last, both
+ * included; if several have it, the one of the smallest element. A class leader is an element that
+ * is the smallest of its own conjugates. The work grows with the range.
  * Refusals in order: 1, 4 (first or last), 12, 2, 3.
  */
 desk_found desk_search(uint64_t f, uint64_t first, uint64_t last);
