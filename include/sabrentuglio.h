@@ -4,8 +4,9 @@
  *
  * A polynomial over the two-element field is a number: bit i is the coefficient of x^i. f is the
  * defining polynomial and n its degree. An element is a number below 2^n. Conjugate i of an
- * element, written c_i, is the element squared i times. Normal coordinates are a number below 2^n
- * whose set bits i pick the conjugates to be summed.
+ * element, written c_i, is the element squared i times, for i from 0 to n-1. An element is normal
+ * if no non-empty set of indices picks conjugates of it that sum to zero. Normal coordinates of an
+ * element are the number below 2^n whose set bits i pick the conjugates that sum to it.
  *
  * A sheet is n records of 32 bytes, in row order, with nothing before or after them. Its numbers
  * are little-endian:
@@ -39,6 +40,8 @@
  *    10      a record differs from the one rebuilt                     the first such record
  *    11      the lengths of the two lists differ, or exceed 4,096      0
  *    12      the first of the range is greater than the last           0
+ *
+ * In a call's order "the shape" stands for: 7; then, for each record from 0 upward, 8 before 9.
  *
  * A call that is done has place 0. A refusal has zeros in all but number and place, and all memory
  * that the call borrowed is unchanged.
@@ -114,7 +117,7 @@ desk_value desk_check(uint64_t f);
 
 /*
  * Returns a times b modulo f, for any f of degree 2 to 46, accepted or not.
- * Refusals in order: 1, 4 (a or b).
+ * Refusals in order: 1, 4.
  */
 desk_value desk_multiply(uint64_t f, uint64_t a, uint64_t b);
 
@@ -141,8 +144,8 @@ desk_issued desk_build(uint64_t f, uint64_t element, uint8_t *buffer, size_t len
 /*
  * Returns degree, complexity and grade of a sheet. It is done exactly for the sheets that
  * desk_build writes, at their own length: it rebuilds the sheet and compares. Writes nothing.
- * Refusals in order: 7; then, for each record from 0 upward, 8 before 9; then 2 and 3 for the
- * sheet's polynomial and 5 for the conjugate of its record 0; then 10.
+ * Refusals in order: the shape, 2 and 3 for the sheet's polynomial, 5 for the conjugate of its
+ * record 0, 10.
  */
 desk_issued desk_read(const uint8_t *sheet, size_t length);
 
@@ -150,14 +153,14 @@ desk_issued desk_read(const uint8_t *sheet, size_t length);
  * Returns the element that has these normal coordinates: the sum (exclusive or) of the sheet's
  * conjugate rows that the bits pick. The call uses the rows as they stand and does not rebuild
  * them; they are right on the sheets that desk_read accepts. Writes nothing.
- * Refusals in order: 7; then, for each record from 0 upward, 8 before 9; then 4.
+ * Refusals in order: the shape, 4.
  */
 desk_value desk_to_polynomial(const uint8_t *sheet, size_t length, uint64_t coordinates);
 
 /*
  * Returns the normal coordinates of an element: the sum of the sheet's inverse rows that its bits
  * pick. The call uses the rows as they stand and does not rebuild them. Writes nothing.
- * Refusals in order: 7; then, for each record from 0 upward, 8 before 9; then 4.
+ * Refusals in order: the shape, 4.
  */
 desk_value desk_to_normal(const uint8_t *sheet, size_t length, uint64_t element);
 
@@ -165,15 +168,16 @@ desk_value desk_to_normal(const uint8_t *sheet, size_t length, uint64_t element)
  * Converts every value of a list as desk_to_polynomial does: into[i] becomes the element that has
  * the coordinates from[i]. The two lists have the same length, at most 4,096; an empty list becomes
  * an empty list. value is always 0. On a refusal `into` is unchanged.
- * Refusals in order: 7; then, for each record from 0 upward, 8 before 9; then 11; then 4, whose
- * place is the index of the first value of `from` that is too large.
+ * Refusals in order: the shape, 11, 4. The place of 4 is the index of the first value of `from`
+ * that is too large.
  */
 desk_value desk_list_to_polynomial(const uint8_t *sheet, size_t length, const uint64_t *from, size_t from_count,
                                    uint64_t *into, size_t into_count);
 
 /*
  * Converts every value of a list as desk_to_normal does: into[i] becomes the normal coordinates of
- * from[i]. Lengths, value and refusals are those of desk_list_to_polynomial.
+ * from[i]. Lengths, value, refusals and their places are as in desk_list_to_polynomial.
+ * Refusals in order: the shape, 11, 4.
  */
 desk_value desk_list_to_normal(const uint8_t *sheet, size_t length, const uint64_t *from, size_t from_count,
                                uint64_t *into, size_t into_count);
@@ -181,7 +185,7 @@ desk_value desk_list_to_normal(const uint8_t *sheet, size_t length, const uint64
 /*
  * Returns the product of normal coordinates a and b, in normal coordinates, by the sheet's table
  * rows. The call uses the rows as they stand and does not rebuild them. Writes nothing.
- * Refusals in order: 7; then, for each record from 0 upward, 8 before 9; then 4 (a or b).
+ * Refusals in order: the shape, 4.
  */
 desk_value desk_times(const uint8_t *sheet, size_t length, uint64_t a, uint64_t b);
 
@@ -189,7 +193,7 @@ desk_value desk_times(const uint8_t *sheet, size_t length, uint64_t a, uint64_t 
  * Returns the normal basis of least complexity among the class leaders from first to last, both
  * included; if several have it, the one of the smallest element. A class leader is an element that
  * is the smallest of its own conjugates. The work grows with the range.
- * Refusals in order: 1, 4 (first or last), 12, 2, 3.
+ * Refusals in order: 1, 4, 12, 2, 3.
  */
 desk_found desk_search(uint64_t f, uint64_t first, uint64_t last);
 
