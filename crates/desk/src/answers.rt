@@ -21,7 +21,7 @@ fn say(text: &[u8]) {
     io::write_all(STDERR_FILENO, text);
 }
 
-// What document 01's table says of a refusal.
+// What document 01's table says of a refusal. A number that is not in the table is told as such.
 fn say_meaning(number: u8) {
     match number {
         1 => say(b"the degree of f is not 2 to 46"),
@@ -43,7 +43,8 @@ fn say_meaning(number: u8) {
             b"the record at this place is not the one that the polynomial and the element give",
         ),
         11 => say(b"the lists differ in length or have more than 4096 values"),
-        _ => say(b"the first of the range is greater than the last"),
+        12 => say(b"the first of the range is greater than the last"),
+        _ => say(b"a number that this program has no meaning for"),
     }
 }
 
