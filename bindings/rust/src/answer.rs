@@ -2,50 +2,57 @@
 //! sheet, [`Best`] of a search.
 
 use crate::raw;
-use crate::refusal::Refusal;
+use crate::refusal::{Refusal, UnknownNumber};
 
-/// How a basis stands to the least complexity there can be, 2n-1.
+/// The kind of a basis, as its grade names it.
+///
+/// A basis is optimal if its complexity is 2n-1, the least there can be, and
+/// optimal bases are of type I or II. Document 01 tells the two apart by the
+/// degree alone: if n+1 is prime the grade is 1, for a basis of type II too, as
+/// at degree 6.
 ///
 /// ```
 /// use sabrentuglio::{Grade, Sheet};
 ///
-/// assert_eq!(Sheet::build(19, 9)?.summary().grade, Grade::NotOptimal);
-/// assert_eq!(Sheet::build(19, 8)?.summary().grade, Grade::OptimalPrime);
-/// assert_eq!(Sheet::build(11, 3)?.summary().grade, Grade::OptimalOther);
+/// assert_eq!(Sheet::build(19, 9)?.summary().kind(), Some(Grade::NotOptimal));
+/// assert_eq!(Sheet::build(19, 8)?.summary().kind(), Some(Grade::TypeOne));
+/// assert_eq!(Sheet::build(11, 3)?.summary().kind(), Some(Grade::TypeTwo));
 /// # Ok::<(), sabrentuglio::Refusal>(())
 /// ```
 #[derive(Clone, Copy, Debug, PartialEq, Eq, Hash)]
 #[non_exhaustive]
 pub enum Grade {
     /// Grade 0: the complexity is not 2n-1.
-    NotOptimal,
+    NotOptimal = 0,
     /// Grade 1: the complexity is 2n-1, and n+1 is prime.
-    OptimalPrime,
+    TypeOne = 1,
     /// Grade 2: the complexity is 2n-1, and n+1 is not prime.
-    OptimalOther,
+    TypeTwo = 2,
 }
 
 impl Grade {
-    /// The grade with this number in document 01.
-    pub fn from_number(number: u64) -> Option<Grade> {
-        match number {
-            0 => Some(Grade::NotOptimal),
-            1 => Some(Grade::OptimalPrime),
-            2 => Some(Grade::OptimalOther),
-            _ => None,
-        }
-    }
+    /// All grades, in the order of their numbers.
+    pub const ALL: &'static [Grade] = &[Grade::NotOptimal, Grade::TypeOne, Grade::TypeTwo];
 
-    /// The number in document 01: 0, 1 or 2.
+    /// The number in document 01.
     pub fn number(self) -> u64 {
         self as u64
     }
+}
 
-    /// A grade that the archive answered; another number means an archive of
-    /// another version than these bindings.
-    fn answered(number: u64) -> Grade {
-        Grade::from_number(number)
-            .unwrap_or_else(|| panic!("the archive answers {}, no grade known here", number))
+impl From<Grade> for u64 {
+    fn from(grade: Grade) -> u64 {
+        grade.number()
+    }
+}
+
+impl TryFrom<u64> for Grade {
+    type Error = UnknownNumber;
+
+    fn try_from(number: u64) -> Result<Grade, UnknownNumber> {
+        let mut all = Grade::ALL.iter().copied();
+        all.find(|grade| grade.number() == number)
+            .ok_or(UnknownNumber(number))
     }
 }
 
@@ -56,8 +63,16 @@ pub struct Summary {
     pub degree: u64,
     /// The number of ones in the n table rows.
     pub complexity: u64,
-    /// How the complexity stands to 2n-1.
-    pub grade: Grade,
+    /// The grade's number; [`Summary::kind`] has its name.
+    pub grade: u64,
+}
+
+impl Summary {
+    /// The kind of the basis; `None` where these bindings have no name for the
+    /// grade.
+    pub fn kind(&self) -> Option<Grade> {
+        Grade::try_from(self.grade).ok()
+    }
 }
 
 /// What a search found: the normal leader of least complexity in its range,
@@ -68,11 +83,19 @@ pub struct Best {
     pub element: u64,
     /// The complexity of its basis.
     pub complexity: u64,
-    /// How the complexity stands to 2n-1.
-    pub grade: Grade,
+    /// The grade's number; [`Best::kind`] has its name.
+    pub grade: u64,
     /// How many normal leaders lie in the range. The counts of two adjoining
     /// ranges add up.
     pub count: u64,
+}
+
+impl Best {
+    /// The kind of the basis; `None` where these bindings have no name for the
+    /// grade.
+    pub fn kind(&self) -> Option<Grade> {
+        Grade::try_from(self.grade).ok()
+    }
 }
 
 impl From<raw::Value> for Result<u64, Refusal> {
@@ -86,7 +109,7 @@ impl From<raw::Issued> for Result<Summary, Refusal> {
         Refusal::unless_done(answer.number, answer.place).map(|()| Summary {
             degree: answer.degree,
             complexity: answer.complexity,
-            grade: Grade::answered(answer.grade),
+            grade: answer.grade,
         })
     }
 }
@@ -101,7 +124,7 @@ impl From<raw::Found> for Result<Option<Best>, Refusal> {
         Ok(Some(Best {
             element: answer.element,
             complexity: answer.complexity,
-            grade: Grade::answered(answer.grade),
+            grade: answer.grade,
             count: answer.count,
         }))
     }
@@ -114,10 +137,23 @@ mod tests {
 
     #[test]
     fn grades_keep_their_numbers() {
-        for number in 0..3 {
-            assert_eq!(Grade::from_number(number).unwrap().number(), number);
+        let numbers: Vec<u64> = Grade::ALL.iter().map(|grade| grade.number()).collect();
+        assert_eq!(numbers, [0, 1, 2]);
+        for grade in Grade::ALL {
+            assert_eq!(Grade::try_from(u64::from(*grade)), Ok(*grade));
         }
-        assert_eq!(Grade::from_number(3), None);
+        assert_eq!(Grade::try_from(99), Err(UnknownNumber(99)));
+    }
+
+    #[test]
+    fn an_unknown_grade_is_kept() {
+        let answer = raw::Issued {
+            degree: 2,
+            grade: 99,
+            ..raw::Issued::default()
+        };
+        let summary: Summary = Result::from(answer).unwrap();
+        assert_eq!((summary.grade, summary.kind()), (99, None));
     }
 
     #[test]
@@ -128,7 +164,7 @@ mod tests {
             value: 0,
         };
         let refusal = Result::from(answer).unwrap_err();
-        assert_eq!(refusal.reason, Reason::TooLarge);
+        assert_eq!(refusal.reason(), Some(Reason::TooLarge));
         assert_eq!(refusal.place, 17);
         assert_eq!(Result::from(raw::Found::default()), Ok(None));
     }

@@ -15,8 +15,8 @@ use crate::refusal::Refusal;
 /// use sabrentuglio::{check, Reason};
 ///
 /// assert!(check(19).is_ok());
-/// assert_eq!(check(3).unwrap_err().reason, Reason::Degree);
-/// assert_eq!(check(5).unwrap_err().reason, Reason::Divisor);
+/// assert_eq!(check(3).unwrap_err().reason(), Some(Reason::Degree));
+/// assert_eq!(check(5).unwrap_err().reason(), Some(Reason::Divisor));
 /// ```
 pub fn check(f: u64) -> Result<(), Refusal> {
     Result::from(raw::check(f)).map(|_| ())
@@ -65,11 +65,13 @@ pub fn trace(f: u64, a: u64) -> Result<u64, Refusal> {
 /// Refuses 1, 4, 6, 2, 3, 5.
 ///
 /// ```
-/// let mut buffer = [9; 100];
-/// let summary = sabrentuglio::build(7, 2, &mut buffer)?;
+/// use sabrentuglio::{build, RECORD_LENGTH};
+///
+/// let mut buffer = [9; 3 * RECORD_LENGTH];
+/// let summary = build(7, 2, &mut buffer)?;
 /// assert_eq!((summary.degree, summary.complexity), (2, 3));
-/// assert_eq!(buffer[32..40], [2, 1, 3, 0, 0, 0, 0, 0]);
-/// assert_eq!(buffer[64..], [9; 36]);
+/// assert_eq!(buffer[RECORD_LENGTH..][..8], [2, 1, 3, 0, 0, 0, 0, 0]);
+/// assert_eq!(buffer[2 * RECORD_LENGTH..], [9; RECORD_LENGTH]);
 /// # Ok::<(), sabrentuglio::Refusal>(())
 /// ```
 pub fn build(f: u64, element: u64, buffer: &mut [u8]) -> Result<Summary, Refusal> {
@@ -81,15 +83,15 @@ pub fn build(f: u64, element: u64, buffer: &mut [u8]) -> Result<Summary, Refusal
 /// Refuses 7, then 8 and 9 record by record, 2, 3, 5, 10.
 ///
 /// ```
-/// use sabrentuglio::{build, read, Reason};
+/// use sabrentuglio::{build, read, Reason, RECORD_LENGTH};
 ///
-/// let mut sheet = [0; 96];
+/// let mut sheet = [0; 3 * RECORD_LENGTH];
 /// let summary = build(11, 3, &mut sheet)?;
 /// assert_eq!(read(&sheet)?, summary);
 ///
-/// sheet[64 + 24] ^= 1;
+/// sheet[2 * RECORD_LENGTH + 24] ^= 1;
 /// let refusal = read(&sheet).unwrap_err();
-/// assert_eq!((refusal.reason, refusal.place), (Reason::RecordDiffers, 2));
+/// assert_eq!((refusal.reason(), refusal.place), (Some(Reason::RecordDiffers), 2));
 /// # Ok::<(), sabrentuglio::Refusal>(())
 /// ```
 pub fn read(sheet: &[u8]) -> Result<Summary, Refusal> {
@@ -102,7 +104,7 @@ pub fn read(sheet: &[u8]) -> Result<Summary, Refusal> {
 /// Refuses 7, then 8 and 9 record by record, 4.
 ///
 /// ```
-/// let mut sheet = [0; 96];
+/// let mut sheet = [0; 3 * sabrentuglio::RECORD_LENGTH];
 /// sabrentuglio::build(11, 3, &mut sheet)?;
 /// assert_eq!(sabrentuglio::to_polynomial(&sheet, 5)?, 4);
 /// # Ok::<(), sabrentuglio::Refusal>(())
@@ -117,7 +119,7 @@ pub fn to_polynomial(sheet: &[u8], coordinates: u64) -> Result<u64, Refusal> {
 /// Refuses 7, then 8 and 9 record by record, 4.
 ///
 /// ```
-/// let mut sheet = [0; 96];
+/// let mut sheet = [0; 3 * sabrentuglio::RECORD_LENGTH];
 /// sabrentuglio::build(11, 3, &mut sheet)?;
 /// assert_eq!(sabrentuglio::to_normal(&sheet, 6)?, 3);
 /// # Ok::<(), sabrentuglio::Refusal>(())
@@ -133,7 +135,7 @@ pub fn to_normal(sheet: &[u8], element: u64) -> Result<u64, Refusal> {
 /// of the first value that is too large.
 ///
 /// ```
-/// let mut sheet = [0; 96];
+/// let mut sheet = [0; 3 * sabrentuglio::RECORD_LENGTH];
 /// sabrentuglio::build(11, 3, &mut sheet)?;
 /// let mut into = [0; 2];
 /// sabrentuglio::list_to_polynomial(&sheet, &[3, 5], &mut into)?;
@@ -150,16 +152,16 @@ pub fn list_to_polynomial(sheet: &[u8], from: &[u64], into: &mut [u64]) -> Resul
 /// Refuses as [`list_to_polynomial`] does.
 ///
 /// ```
-/// use sabrentuglio::{build, list_to_normal, Reason};
+/// use sabrentuglio::{build, list_to_normal, Reason, RECORD_LENGTH};
 ///
-/// let mut sheet = [0; 96];
+/// let mut sheet = [0; 3 * RECORD_LENGTH];
 /// build(11, 3, &mut sheet)?;
 /// let mut into = [0; 2];
 /// list_to_normal(&sheet, &[6, 4], &mut into)?;
 /// assert_eq!(into, [3, 5]);
 ///
 /// let refusal = list_to_normal(&sheet, &[6, 8], &mut into).unwrap_err();
-/// assert_eq!((refusal.reason, refusal.place), (Reason::TooLarge, 1));
+/// assert_eq!((refusal.reason(), refusal.place), (Some(Reason::TooLarge), 1));
 /// assert_eq!(into, [3, 5]);
 /// # Ok::<(), sabrentuglio::Refusal>(())
 /// ```
@@ -173,7 +175,7 @@ pub fn list_to_normal(sheet: &[u8], from: &[u64], into: &mut [u64]) -> Result<()
 /// Refuses 7, then 8 and 9 record by record, 4.
 ///
 /// ```
-/// let mut sheet = [0; 96];
+/// let mut sheet = [0; 3 * sabrentuglio::RECORD_LENGTH];
 /// sabrentuglio::build(11, 3, &mut sheet)?;
 /// assert_eq!(sabrentuglio::times(&sheet, 1, 2)?, 5);
 /// # Ok::<(), sabrentuglio::Refusal>(())
@@ -193,8 +195,9 @@ pub fn times(sheet: &[u8], a: u64, b: u64) -> Result<u64, Refusal> {
 /// ```
 /// use sabrentuglio::{search, Best, Grade};
 ///
-/// let best = Best { element: 8, complexity: 7, grade: Grade::OptimalPrime, count: 2 };
+/// let best = Best { element: 8, complexity: 7, grade: 1, count: 2 };
 /// assert_eq!(search(19, 0, 15)?, Some(best));
+/// assert_eq!(best.kind(), Some(Grade::TypeOne));
 /// assert_eq!(search(19, 10, 15)?, None);
 /// # Ok::<(), sabrentuglio::Refusal>(())
 /// ```

@@ -17,6 +17,9 @@
 //! Every number is a legal argument. What the desk does not do it refuses, with
 //! a [`Refusal`], and then every buffer and list stays as it came.
 //!
+//! Refusals and grades carry document 01's numbers. [`Reason`] and [`Grade`] have
+//! the names of those that this version knows.
+//!
 //! ```
 //! use sabrentuglio::{multiply, Reason, Sheet};
 //!
@@ -26,7 +29,7 @@
 //! assert_eq!(product, multiply(11, 6, 4)?);
 //!
 //! let refusal = Sheet::build(11, 2).unwrap_err();
-//! assert_eq!(refusal.reason, Reason::NotNormal);
+//! assert_eq!(refusal.reason(), Some(Reason::NotNormal));
 //! # Ok::<(), sabrentuglio::Refusal>(())
 //! ```
 
@@ -44,7 +47,7 @@ pub use calls::{
     build, check, list_to_normal, list_to_polynomial, multiply, read, search, square, times,
     to_normal, to_polynomial, trace,
 };
-pub use refusal::{Reason, Refusal};
+pub use refusal::{Reason, Refusal, UnknownNumber};
 pub use sheet::Sheet;
 
 /// The length of one record of a sheet in bytes.

@@ -1,45 +1,56 @@
-//! What the desk says where it does not do as asked: [`Refusal`] and its
-//! [`Reason`], document 01's refusal table.
+//! What the desk says where it does not do as asked: [`Refusal`], with a number
+//! of document 01's refusal table, and [`Reason`], the names of those numbers.
 
 use std::error::Error;
 use std::fmt;
 
-/// The conditions of document 01's refusal table.
+/// The conditions of document 01's refusal table, each with its number there.
+///
+/// The table can get further numbers and leave some unused, so a number has a
+/// name only where [`Reason::try_from`] knows one.
+///
+/// ```
+/// use sabrentuglio::{Reason, UnknownNumber};
+///
+/// assert_eq!(Reason::try_from(5), Ok(Reason::NotNormal));
+/// assert_eq!(Reason::NotNormal.number(), 5);
+/// assert_eq!(Reason::try_from(99), Err(UnknownNumber(99)));
+/// ```
 #[derive(Clone, Copy, Debug, PartialEq, Eq, Hash, PartialOrd, Ord)]
 #[non_exhaustive]
 pub enum Reason {
     /// 1: the degree of f is below 2 or above 46, or f is zero.
-    Degree,
+    Degree = 1,
     /// 2: a polynomial of degree 1 to n-1 divides f.
-    Divisor,
+    Divisor = 2,
     /// 3: squaring n times does not return x. No polynomial earns it, since
     /// those that would have a divisor; it stands here because it stands in
     /// the table.
-    Squaring,
+    Squaring = 3,
     /// 4: an element, coordinate number or range end is 2^n or more.
-    TooLarge,
+    TooLarge = 4,
     /// 5: the element is not normal.
-    NotNormal,
+    NotNormal = 5,
     /// 6: the buffer to be written is shorter than 32n bytes.
-    BufferLength,
+    BufferLength = 6,
     /// 7: the length of the sheet is not 32 times a count of 2 to 46.
-    SheetLength,
+    SheetLength = 7,
     /// 8: a record's degree is not the record count, its row number is not its
     /// place, or its bytes 2-7 differ from record 0.
-    RecordHead,
+    RecordHead = 8,
     /// 9: a record's bytes 2-7 or one of its three rows is 2^n or more.
-    RecordTooLarge,
+    RecordTooLarge = 9,
     /// 10: a record differs from the one rebuilt.
-    RecordDiffers,
+    RecordDiffers = 10,
     /// 11: the list lengths differ or exceed 4,096.
-    ListLength,
+    ListLength = 11,
     /// 12: the first of the range is greater than the last.
-    RangeOrder,
+    RangeOrder = 12,
 }
 
 impl Reason {
-    /// All reasons, in the order of the table.
-    pub const ALL: [Reason; 12] = [
+    /// All reasons, in the order of their numbers.
+    pub const ALL: &'static [Reason] = &[
         Reason::Degree,
         Reason::Divisor,
         Reason::Squaring,
@@ -54,22 +65,9 @@ impl Reason {
         Reason::RangeOrder,
     ];
 
-    /// The reason with this number in the table.
-    ///
-    /// ```
-    /// use sabrentuglio::Reason;
-    ///
-    /// assert_eq!(Reason::from_number(5), Some(Reason::NotNormal));
-    /// assert_eq!(Reason::from_number(0), None);
-    /// ```
-    pub fn from_number(number: u64) -> Option<Reason> {
-        let index = usize::try_from(number.checked_sub(1)?).ok()?;
-        Reason::ALL.get(index).copied()
-    }
-
-    /// The number in the table, 1 to 12.
+    /// The number in the table.
     pub fn number(self) -> u64 {
-        self as u64 + 1
+        self as u64
     }
 
     /// The condition in words.
@@ -94,17 +92,49 @@ impl Reason {
     }
 }
 
+impl From<Reason> for u64 {
+    fn from(reason: Reason) -> u64 {
+        reason.number()
+    }
+}
+
+impl TryFrom<u64> for Reason {
+    type Error = UnknownNumber;
+
+    fn try_from(number: u64) -> Result<Reason, UnknownNumber> {
+        let mut all = Reason::ALL.iter().copied();
+        all.find(|reason| reason.number() == number)
+            .ok_or(UnknownNumber(number))
+    }
+}
+
 impl fmt::Display for Reason {
     fn fmt(&self, out: &mut fmt::Formatter<'_>) -> fmt::Result {
         out.write_str(self.meaning())
     }
 }
 
+/// The number of a refusal or a grade for which these bindings have no name.
+/// The archive is then of another version.
+#[derive(Clone, Copy, Debug, PartialEq, Eq, Hash)]
+pub struct UnknownNumber(pub u64);
+
+impl fmt::Display for UnknownNumber {
+    fn fmt(&self, out: &mut fmt::Formatter<'_>) -> fmt::Result {
+        write!(out, "these bindings have no name for the number {}", self.0)
+    }
+}
+
+impl Error for UnknownNumber {}
+
 /// A refused call. Every buffer and list it was lent stays as it came.
 ///
 /// ```
-/// let refusal = sabrentuglio::check(5).unwrap_err();
-/// assert_eq!(refusal.number(), 2);
+/// use sabrentuglio::{check, Reason};
+///
+/// let refusal = check(5).unwrap_err();
+/// assert_eq!((refusal.number, refusal.place), (2, 0));
+/// assert_eq!(refusal.reason(), Some(Reason::Divisor));
 /// assert_eq!(
 ///     refusal.to_string(),
 ///     "refusal 2, place 0: some polynomial of degree 1 to n-1 divides f"
@@ -112,45 +142,38 @@ impl fmt::Display for Reason {
 /// ```
 #[derive(Clone, Copy, Debug, PartialEq, Eq, Hash)]
 pub struct Refusal {
-    /// The condition that applied, the first in the call's order.
-    pub reason: Reason,
+    /// The number in document 01's table: the first condition of the call's
+    /// order that applied.
+    pub number: u64,
     /// The record or the list index at fault, where the table names one;
     /// else 0.
     pub place: usize,
 }
 
 impl Refusal {
-    /// The number in document 01's table, 1 to 12.
-    pub fn number(&self) -> u64 {
-        self.reason.number()
+    /// The condition that applied; `None` where these bindings have no name
+    /// for the number.
+    pub fn reason(&self) -> Option<Reason> {
+        Reason::try_from(self.number).ok()
     }
 
     /// The answer's number and place as a result.
-    ///
-    /// # Panics
-    ///
-    /// Where the number is not in the table: the archive is then of another
-    /// version than these bindings.
     pub(crate) fn unless_done(number: u64, place: u64) -> Result<(), Refusal> {
         if number == 0 {
             return Ok(());
         }
-        let reason = Reason::from_number(number)
-            .unwrap_or_else(|| panic!("the archive answers {}, no refusal known here", number));
         let place = usize::try_from(place).expect("a place is an index");
-        Err(Refusal { reason, place })
+        Err(Refusal { number, place })
     }
 }
 
 impl fmt::Display for Refusal {
     fn fmt(&self, out: &mut fmt::Formatter<'_>) -> fmt::Result {
-        write!(
-            out,
-            "refusal {}, place {}: {}",
-            self.number(),
-            self.place,
-            self.reason
-        )
+        write!(out, "refusal {}, place {}: ", self.number, self.place)?;
+        match Reason::try_from(self.number) {
+            Ok(reason) => reason.fmt(out),
+            Err(unknown) => unknown.fmt(out),
+        }
     }
 }
 
@@ -162,12 +185,13 @@ mod tests {
 
     #[test]
     fn numbers_are_those_of_the_table() {
-        for (number, reason) in (1..).zip(Reason::ALL) {
-            assert_eq!(reason.number(), number);
-            assert_eq!(Reason::from_number(number), Some(reason));
+        let numbers: Vec<u64> = Reason::ALL.iter().map(|reason| reason.number()).collect();
+        assert_eq!(numbers, [1, 2, 3, 4, 5, 6, 7, 8, 9, 10, 11, 12]);
+        for reason in Reason::ALL {
+            assert_eq!(Reason::try_from(u64::from(*reason)), Ok(*reason));
         }
-        for number in [0, 13, u64::MAX] {
-            assert_eq!(Reason::from_number(number), None);
+        for number in [0, 13, 24, u64::MAX] {
+            assert_eq!(Reason::try_from(number), Err(UnknownNumber(number)));
         }
     }
 
@@ -175,10 +199,21 @@ mod tests {
     fn done_is_no_refusal() {
         assert_eq!(Refusal::unless_done(0, 0), Ok(()));
         let refusal = Refusal::unless_done(10, 45).unwrap_err();
-        assert_eq!(refusal.reason, Reason::RecordDiffers);
+        assert_eq!(refusal.reason(), Some(Reason::RecordDiffers));
         assert_eq!(
             refusal.to_string(),
             "refusal 10, place 45: the record differs from the one rebuilt"
+        );
+    }
+
+    #[test]
+    fn an_unknown_number_is_kept() {
+        let refusal = Refusal::unless_done(99, 7).unwrap_err();
+        assert_eq!((refusal.number, refusal.place), (99, 7));
+        assert_eq!(refusal.reason(), None);
+        assert_eq!(
+            refusal.to_string(),
+            "refusal 99, place 7: these bindings have no name for the number 99"
         );
     }
 }

@@ -35,8 +35,8 @@ impl Sheet {
     /// use sabrentuglio::{Reason, Sheet};
     ///
     /// assert_eq!(Sheet::build(7, 2)?.summary().complexity, 3);
-    /// assert_eq!(Sheet::build(7, 1).unwrap_err().reason, Reason::NotNormal);
-    /// assert_eq!(Sheet::build(7, 4).unwrap_err().reason, Reason::TooLarge);
+    /// assert_eq!(Sheet::build(7, 1).unwrap_err().reason(), Some(Reason::NotNormal));
+    /// assert_eq!(Sheet::build(7, 4).unwrap_err().reason(), Some(Reason::TooLarge));
     /// # Ok::<(), sabrentuglio::Refusal>(())
     /// ```
     pub fn build(f: u64, element: u64) -> Result<Sheet, Refusal> {
@@ -51,14 +51,14 @@ impl Sheet {
     /// Refuses 7, then 8 and 9 record by record, 2, 3, 5, 10.
     ///
     /// ```
-    /// use sabrentuglio::{Reason, Sheet};
+    /// use sabrentuglio::{Reason, Sheet, RECORD_LENGTH};
     ///
     /// let bytes = Sheet::build(11, 3)?.into_bytes();
     /// assert!(Sheet::read(bytes.clone()).is_ok());
     ///
-    /// let without_middle = [&bytes[..32], &bytes[64..]].concat();
+    /// let without_middle = [&bytes[..RECORD_LENGTH], &bytes[2 * RECORD_LENGTH..]].concat();
     /// let refusal = Sheet::read(without_middle).unwrap_err();
-    /// assert_eq!((refusal.reason, refusal.place), (Reason::RecordHead, 0));
+    /// assert_eq!((refusal.reason(), refusal.place), (Some(Reason::RecordHead), 0));
     /// # Ok::<(), sabrentuglio::Refusal>(())
     /// ```
     pub fn read(bytes: impl Into<Vec<u8>>) -> Result<Sheet, Refusal> {
@@ -167,14 +167,14 @@ impl Sheet {
     /// first value that is too large.
     ///
     /// ```
-    /// use sabrentuglio::{Reason, Sheet};
+    /// use sabrentuglio::{Reason, Sheet, MAX_LIST};
     ///
     /// let sheet = Sheet::build(11, 3)?;
     /// assert_eq!(sheet.list_to_normal(&[6, 4])?, [3, 5]);
     /// assert_eq!(sheet.list_to_normal(&[])?, []);
     ///
-    /// let refusal = sheet.list_to_normal(&[0; 4097]).unwrap_err();
-    /// assert_eq!(refusal.reason, Reason::ListLength);
+    /// let refusal = sheet.list_to_normal(&[0; MAX_LIST + 1]).unwrap_err();
+    /// assert_eq!(refusal.reason(), Some(Reason::ListLength));
     /// # Ok::<(), sabrentuglio::Refusal>(())
     /// ```
     pub fn list_to_normal(&self, from: &[u64]) -> Result<Vec<u64>, Refusal> {

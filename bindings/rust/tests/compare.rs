@@ -41,6 +41,7 @@ mod tally;
 use fields::Fields;
 use pair::Pair;
 use random::Random;
+use sabrentuglio::{MAX_DEGREE, MAX_LIST, RECORD_LENGTH};
 use std::env;
 use std::time::Instant;
 
@@ -71,6 +72,16 @@ fn seed() -> u64 {
 fn main() {
     let seed = seed();
     println!("comparing the desk with plain, DESK_SEED={}", seed);
+    let limits = (
+        plain::MAX_DEGREE as usize,
+        plain::RECORD_LENGTH,
+        plain::MAX_LIST,
+    );
+    assert_eq!(
+        (MAX_DEGREE, RECORD_LENGTH, MAX_LIST),
+        limits,
+        "the limits differ"
+    );
     let fields = Fields::find(&mut Random::new(seed));
     let mut pair = Pair::new(seed);
     for (index, (name, run)) in (1..).zip(GROUPS) {

@@ -4,6 +4,10 @@
 use crate::fields::{wrong_degree, Field, Fields};
 use crate::pair::Pair;
 use crate::random::Random;
+use sabrentuglio::{MAX_DEGREE, RECORD_LENGTH};
+
+/// The length of the longest sheet.
+const LONGEST: usize = RECORD_LENGTH * MAX_DEGREE;
 
 /// Runs the group.
 pub fn run(pair: &mut Pair, random: &mut Random, fields: &Fields) {
@@ -14,15 +18,15 @@ pub fn run(pair: &mut Pair, random: &mut Random, fields: &Fields) {
         rooms(pair, random, field);
     }
     for _ in 0..100 {
-        let buffer = random.bytes(1472);
-        let room = random.index(1473);
+        let buffer = random.bytes(LONGEST);
+        let room = random.index(LONGEST + 1);
         pair.build(wrong_degree(random), random.number(), &buffer[..room]);
     }
 }
 
 /// All f up to degree 5 with all elements, one past the field included.
 fn every_small_sheet(pair: &mut Pair, random: &mut Random) {
-    let buffer = random.bytes(32 * 5 + 3);
+    let buffer = random.bytes(RECORD_LENGTH * 5 + 3);
     for f in 0..1 << 6 {
         for element in 0..=1 << 5 {
             pair.build(f, element, &buffer);
@@ -33,9 +37,9 @@ fn every_small_sheet(pair: &mut Pair, random: &mut Random) {
 /// The known normal elements, the buffer exact, one byte longer and as long as
 /// the longest sheet.
 fn good(pair: &mut Pair, random: &mut Random, field: &Field) {
-    let exact = 32 * field.n as usize;
+    let exact = RECORD_LENGTH * field.n as usize;
     for basis in &field.bases {
-        for room in [exact, exact + 1, exact.max(46 * 32)] {
+        for room in [exact, exact + 1, exact.max(LONGEST)] {
             let buffer = random.bytes(room);
             pair.build(basis.f, basis.element, &buffer);
         }
@@ -45,7 +49,7 @@ fn good(pair: &mut Pair, random: &mut Random, field: &Field) {
 /// Elements of all kinds, with f accepted and not; half of random elements are
 /// normal or more.
 fn elements(pair: &mut Pair, random: &mut Random, field: &Field) {
-    let room = 32 * field.n as usize + random.index(40);
+    let room = RECORD_LENGTH * field.n as usize + random.index(40);
     let buffer = random.bytes(room);
     for f in field.polynomials().iter().chain(&field.divided) {
         for element in [0, 1, 2, (1 << field.n) - 1, 1 << field.n, u64::MAX] {
@@ -63,12 +67,13 @@ fn elements(pair: &mut Pair, random: &mut Random, field: &Field) {
 
 /// Buffers around every edge, beside causes that come before and after 6.
 fn rooms(pair: &mut Pair, random: &mut Random, field: &Field) {
-    let exact = 32 * field.n as usize;
+    let exact = RECORD_LENGTH * field.n as usize;
     let basis = field.any(random);
     let divided = random.pick(&field.divided);
     let buffer = random.bytes(exact + 64);
     let some = random.index(exact);
-    for room in [0, 1, 31, 32, exact - 32, exact - 1, some] {
+    let record = RECORD_LENGTH;
+    for room in [0, 1, record - 1, record, exact - record, exact - 1, some] {
         let short = &buffer[..room];
         pair.build(basis.f, basis.element, short);
         pair.build(basis.f, 1 << field.n, short);

@@ -2,9 +2,10 @@
 //! and the order decides.
 
 use crate::damage::{damaged, invented};
-use crate::fields::{polynomial, wrong_degree, Fields};
+use crate::fields::{polynomial, wrong_degree, Fields, WIDEST};
 use crate::pair::Pair;
 use crate::random::Random;
+use sabrentuglio::RECORD_LENGTH;
 
 /// Runs the group.
 pub fn run(pair: &mut Pair, random: &mut Random, fields: &Fields) {
@@ -36,7 +37,7 @@ fn on_polynomials(pair: &mut Pair, random: &mut Random, fields: &Fields) {
         2 => pair.square(f, a),
         3 => pair.trace(f, a),
         4 => {
-            let room = random.index(2 * 32 * n as usize);
+            let room = random.index(2 * RECORD_LENGTH * n as usize);
             let buffer = random.bytes(room);
             pair.build(f, a, &buffer);
         }
@@ -83,7 +84,7 @@ fn on_sheets(pair: &mut Pair, random: &mut Random, fields: &Fields) {
                 false => random.index(5),
             };
             let from: Vec<u64> = (0..count).map(|_| random.operand(n)).collect();
-            pair.lists(&sheet, &from, &random.elements(46, room));
+            pair.lists(&sheet, &from, &random.elements(WIDEST, room));
         }
     }
 }

@@ -4,9 +4,7 @@
 //! document 01's table of the sheet file.
 
 use crate::random::Random;
-
-/// The length of a record.
-pub const RECORD: usize = 32;
+use sabrentuglio::RECORD_LENGTH;
 
 /// A field of a record: first byte and length.
 #[derive(Clone, Copy)]
@@ -51,7 +49,7 @@ pub const CONJUGATE: Part = PARTS[3];
 
 /// Puts a number into a field of a record.
 pub fn put(sheet: &mut [u8], record: usize, part: Part, number: u64) {
-    let start = RECORD * record + part.first;
+    let start = RECORD_LENGTH * record + part.first;
     let bytes = number.to_le_bytes();
     sheet[start..start + part.length].copy_from_slice(&bytes[..part.length]);
 }
@@ -64,7 +62,7 @@ pub fn flip(sheet: &mut [u8], bit: usize) {
 /// Turns one bit of a field over.
 pub fn flip_in(sheet: &mut [u8], record: usize, part: Part, random: &mut Random) {
     let bit = random.index(8 * part.length);
-    flip(sheet, 8 * (RECORD * record + part.first) + bit);
+    flip(sheet, 8 * (RECORD_LENGTH * record + part.first) + bit);
 }
 
 /// Puts a number of 2^n or more into a field of f or of a row.
@@ -78,29 +76,29 @@ pub fn enlarge(sheet: &mut [u8], record: usize, part: Part, n: u32, random: &mut
 
 /// The sheet with its records in this order.
 pub fn arrange(sheet: &[u8], order: &[usize]) -> Vec<u8> {
-    let record = |i: &usize| &sheet[RECORD * i..RECORD * (i + 1)];
+    let record = |i: &usize| &sheet[RECORD_LENGTH * i..RECORD_LENGTH * (i + 1)];
     order.iter().flat_map(record).copied().collect()
 }
 
 /// Makes degrees and row numbers fit the records as they stand.
 pub fn renumber(sheet: &mut [u8]) {
-    let count = sheet.len() / RECORD;
+    let count = sheet.len() / RECORD_LENGTH;
     for i in 0..count {
-        sheet[RECORD * i] = count as u8;
-        sheet[RECORD * i + 1] = i as u8;
+        sheet[RECORD_LENGTH * i] = count as u8;
+        sheet[RECORD_LENGTH * i + 1] = i as u8;
     }
 }
 
 /// Puts the same f into all records.
 pub fn refound(sheet: &mut [u8], tail: u64) {
-    for i in 0..sheet.len() / RECORD {
+    for i in 0..sheet.len() / RECORD_LENGTH {
         put(sheet, i, TAIL, tail);
     }
 }
 
 /// A sheet with right heads and any rows below 2^n.
 pub fn invented(n: u32, tail: u64, random: &mut Random) -> Vec<u8> {
-    let mut sheet = vec![0; RECORD * n as usize];
+    let mut sheet = vec![0; RECORD_LENGTH * n as usize];
     renumber(&mut sheet);
     refound(&mut sheet, tail);
     for i in 0..n as usize {
@@ -113,7 +111,7 @@ pub fn invented(n: u32, tail: u64, random: &mut Random) -> Vec<u8> {
 
 /// Records lost, doubled, swapped and moved around.
 pub fn rearranged(sheet: &[u8], random: &mut Random) -> Vec<Vec<u8>> {
-    let count = sheet.len() / RECORD;
+    let count = sheet.len() / RECORD_LENGTH;
     let (i, j) = (random.index(count), random.index(count));
     let whole: Vec<usize> = (0..count).collect();
     let mut lost = whole.clone();
@@ -134,7 +132,7 @@ pub fn rearranged(sheet: &[u8], random: &mut Random) -> Vec<Vec<u8>> {
 /// A sheet with one to three faults of any kind.
 pub fn damaged(sheet: &[u8], random: &mut Random) -> Vec<u8> {
     let mut sheet = sheet.to_vec();
-    let count = sheet.len() / RECORD;
+    let count = sheet.len() / RECORD_LENGTH;
     for _ in 0..=random.below(3) {
         let record = random.index(count);
         match random.below(4) {

@@ -4,9 +4,13 @@
 //! All of it is found with `plain` when the comparison begins.
 
 use crate::random::Random;
+use sabrentuglio::{MAX_DEGREE, RECORD_LENGTH};
+
+/// The highest degree, among degrees.
+pub const WIDEST: u32 = MAX_DEGREE as u32;
 
 /// The degrees that the desk knows.
-pub const DEGREES: std::ops::RangeInclusive<u32> = 2..=46;
+pub const DEGREES: std::ops::RangeInclusive<u32> = 2..=WIDEST;
 
 /// One accepted polynomial with a normal element and their sheet.
 pub struct Basis {
@@ -64,7 +68,7 @@ impl Fields {
         Fields { fields }
     }
 
-    /// The field of a degree, 2 to 46.
+    /// The field of a degree that the desk knows.
     pub fn of(&self, n: u32) -> &Field {
         let field = self.fields.iter().find(|field| field.n == n);
         field.expect("every degree has its field")
@@ -144,9 +148,9 @@ fn periods(n: u32) -> u64 {
 
 /// The sheet of f and an element, where there is one.
 fn basis_of(f: u64, element: u64) -> Option<Basis> {
-    let mut sheet = vec![0; 32 * 46];
+    let mut sheet = vec![0; RECORD_LENGTH * MAX_DEGREE];
     let answer = plain::build(f, element, &mut sheet);
-    sheet.truncate(32 * answer.degree as usize);
+    sheet.truncate(RECORD_LENGTH * answer.degree as usize);
     let done = answer.number == 0;
     done.then_some(Basis { f, element, sheet })
 }
@@ -170,6 +174,9 @@ pub fn polynomial(n: u32, random: &mut Random) -> u64 {
 pub fn wrong_degree(random: &mut Random) -> u64 {
     match random.below(3) {
         0 => random.below(4),
-        _ => polynomial(47 + random.below(17) as u32, random),
+        _ => {
+            let above = random.below(u64::from(63 - WIDEST));
+            polynomial(WIDEST + 1 + above as u32, random)
+        }
     }
 }

@@ -1,9 +1,10 @@
 //! Converting lists both ways: short, long, empty, bad, of differing lengths.
 
 use crate::damage::{damaged, invented};
-use crate::fields::{Field, Fields};
+use crate::fields::{Field, Fields, WIDEST};
 use crate::pair::Pair;
 use crate::random::Random;
+use sabrentuglio::MAX_LIST;
 
 /// Runs the group.
 pub fn run(pair: &mut Pair, random: &mut Random, fields: &Fields) {
@@ -14,7 +15,7 @@ pub fn run(pair: &mut Pair, random: &mut Random, fields: &Fields) {
         differing_lengths(pair, random, field.n, sheet);
         bad_sheets(pair, random, field);
     }
-    for n in [2, 13, 32, 46] {
+    for n in [2, 13, 32, WIDEST] {
         let sheet = &fields.of(n).any(random).sheet;
         around_the_longest(pair, random, n, sheet);
     }
@@ -25,7 +26,7 @@ fn good(pair: &mut Pair, random: &mut Random, n: u32, sheet: &[u8]) {
     let tail = random.element(n);
     let any_rows = invented(n, tail, random);
     for length in [0, 1, 2, 3, 8, 60] {
-        let (from, into) = (random.elements(n, length), random.elements(46, length));
+        let (from, into) = (random.elements(n, length), random.elements(WIDEST, length));
         pair.lists(sheet, &from, &into);
         pair.lists(&any_rows, &from, &into);
     }
@@ -35,7 +36,7 @@ fn good(pair: &mut Pair, random: &mut Random, n: u32, sheet: &[u8]) {
 fn bad_values(pair: &mut Pair, random: &mut Random, n: u32, sheet: &[u8]) {
     let length = 2 + random.index(40);
     let good = random.elements(n, length);
-    let into = random.elements(46, length);
+    let into = random.elements(WIDEST, length);
     for place in [0, length - 1, random.index(length)] {
         let mut from = good.clone();
         from[place] = 1 << n;
@@ -55,7 +56,7 @@ fn differing_lengths(pair: &mut Pair, random: &mut Random, n: u32, sheet: &[u8])
     let length = 2 + random.index(20);
     let from = random.elements(n, length);
     for room in [0, 1, length - 1, length + 1, length + 50] {
-        let into = random.elements(46, room);
+        let into = random.elements(WIDEST, room);
         pair.lists(sheet, &from, &into);
         pair.lists(sheet, &[], &into);
     }
@@ -71,31 +72,34 @@ fn bad_sheets(pair: &mut Pair, random: &mut Random, field: &Field) {
         }
         let (count, room) = (random.index(4), random.index(4));
         let from: Vec<u64> = (0..count).map(|_| random.operand(field.n)).collect();
-        pair.lists(&sheet, &from, &random.elements(46, room));
+        pair.lists(&sheet, &from, &random.elements(WIDEST, room));
         pair.lists(&sheet, &from, &from);
     }
 }
 
-/// 4,096 values are converted, 4,097 are not.
+/// The longest list is converted, one with a value more is not.
 fn around_the_longest(pair: &mut Pair, random: &mut Random, n: u32, sheet: &[u8]) {
-    let from = random.elements(n, 5000);
-    let into = random.elements(46, 5000);
-    let lengths = [(4095, 4095), (4096, 4096), (4097, 4097), (5000, 5000)];
+    let (below, above, far) = (MAX_LIST - 1, MAX_LIST + 1, 5_000);
+    let from = random.elements(n, far);
+    let into = random.elements(WIDEST, far);
+    for length in [below, MAX_LIST, above, far] {
+        pair.lists(sheet, &from[..length], &into[..length]);
+    }
     let differing = [
-        (4096, 4097),
-        (4097, 4096),
-        (4096, 4095),
-        (0, 5000),
-        (5000, 0),
+        (MAX_LIST, above),
+        (above, MAX_LIST),
+        (MAX_LIST, below),
+        (0, far),
+        (far, 0),
     ];
-    for (count, room) in lengths.into_iter().chain(differing) {
+    for (count, room) in differing {
         pair.lists(sheet, &from[..count], &into[..room]);
     }
-    for place in [0, 4094, 4095, 4096] {
+    for place in [0, below - 1, below, MAX_LIST] {
         let mut bad = from.clone();
         bad[place] = u64::MAX;
-        pair.lists(sheet, &bad[..4096], &into[..4096]);
-        pair.lists(sheet, &bad[..4097], &into[..4097]);
+        pair.lists(sheet, &bad[..MAX_LIST], &into[..MAX_LIST]);
+        pair.lists(sheet, &bad[..above], &into[..above]);
     }
     pair.lists(&sheet[1..], &from, &into[..1]);
 }

@@ -1,6 +1,6 @@
 //! The calls in the polynomial notation: check, multiply, square, trace.
 
-use crate::fields::{polynomial, wrong_degree, Field, Fields};
+use crate::fields::{polynomial, wrong_degree, Field, Fields, WIDEST};
 use crate::pair::Pair;
 use crate::random::Random;
 
@@ -14,7 +14,7 @@ pub fn run(pair: &mut Pair, random: &mut Random, fields: &Fields) {
     }
     for _ in 0..300 {
         let f = wrong_degree(random);
-        let (a, b) = (random.operand(46), random.operand(46));
+        let (a, b) = (random.operand(WIDEST), random.operand(WIDEST));
         pair.check(f);
         ask(pair, f, a, b);
     }

@@ -2,11 +2,12 @@
 
 use crate::damage::{
     damaged, enlarge, flip, flip_in, invented, put, rearranged, refound, renumber, CONJUGATE,
-    PARTS, RECORD,
+    PARTS, TAIL,
 };
-use crate::fields::{Basis, Field, Fields};
+use crate::fields::{Basis, Field, Fields, WIDEST};
 use crate::pair::Pair;
 use crate::random::Random;
+use sabrentuglio::{MAX_DEGREE, RECORD_LENGTH};
 
 /// Runs the group.
 pub fn run(pair: &mut Pair, random: &mut Random, fields: &Fields) {
@@ -65,13 +66,13 @@ fn every_bit(pair: &mut Pair, random: &mut Random, fields: &Fields) {
             ask(pair, random, n, &sheet);
         }
     }
-    let basis = fields.of(46).any(random);
-    for record in [0, 22, 45] {
-        for bit in 0..8 * RECORD {
+    let basis = fields.of(WIDEST).any(random);
+    for record in [0, MAX_DEGREE / 2 - 1, MAX_DEGREE - 1] {
+        for bit in 0..8 * RECORD_LENGTH {
             let mut sheet = basis.sheet.clone();
-            flip(&mut sheet, 8 * RECORD * record + bit);
+            flip(&mut sheet, 8 * RECORD_LENGTH * record + bit);
             pair.read(&sheet);
-            pair.times(&sheet, random.element(46), random.element(46));
+            pair.times(&sheet, random.element(WIDEST), random.element(WIDEST));
         }
     }
 }
@@ -90,14 +91,14 @@ fn every_field(pair: &mut Pair, random: &mut Random, n: u32, basis: &Basis) {
         ask(pair, random, n, &sheet);
         // A right head for another record or another degree.
         let mut sheet = basis.sheet.clone();
-        sheet[RECORD * record + random.index(2)] = random.below(48) as u8;
+        sheet[RECORD_LENGTH * record + random.index(2)] = random.index(MAX_DEGREE + 2) as u8;
         ask(pair, random, n, &sheet);
     }
 }
 
 /// Records lost, doubled and moved, also with heads that hide it.
 fn moved_records(pair: &mut Pair, random: &mut Random, basis: &Basis) {
-    let n = (basis.sheet.len() / RECORD) as u32;
+    let n = (basis.sheet.len() / RECORD_LENGTH) as u32;
     for _ in 0..3 {
         for mut sheet in rearranged(&basis.sheet, random) {
             ask(pair, random, n, &sheet);
@@ -105,7 +106,13 @@ fn moved_records(pair: &mut Pair, random: &mut Random, basis: &Basis) {
             ask(pair, random, n, &sheet);
         }
     }
-    for more in [1, 31, 32, 33, 64] {
+    for more in [
+        1,
+        RECORD_LENGTH - 1,
+        RECORD_LENGTH,
+        RECORD_LENGTH + 1,
+        2 * RECORD_LENGTH,
+    ] {
         let sheet = [&basis.sheet[..], &random.bytes(more)].concat();
         ask(pair, random, n, &sheet);
         let sheet = [&basis.sheet[..], &vec![0; more]].concat();
@@ -124,13 +131,13 @@ fn other_polynomials(pair: &mut Pair, random: &mut Random, field: &Field, basis:
         refound(&mut sheet, tail);
         ask(pair, random, field.n, &sheet);
     }
-    // The term x^n itself, and one above: bytes 2-7 hold 48 bits.
-    for tail in [size, size + 1, 1 << 47] {
+    // The term x^n itself, one above, and the top bit of the bytes of f.
+    for tail in [size, size + 1, 1 << (8 * TAIL.length - 1)] {
         let mut sheet = basis.sheet.clone();
         refound(&mut sheet, tail);
         ask(pair, random, field.n, &sheet);
         // From record 1 on it differs from record 0 before it is too large.
-        put(&mut sheet, 0, PARTS[2], basis.f - size);
+        put(&mut sheet, 0, TAIL, basis.f - size);
         ask(pair, random, field.n, &sheet);
     }
 }

@@ -7,7 +7,7 @@ use crate::damage::damaged;
 use crate::fields::{Field, Fields};
 use crate::pair::Pair;
 use crate::random::Random;
-use sabrentuglio::{raw, Refusal, Sheet};
+use sabrentuglio::{raw, Refusal, Sheet, Summary, MAX_DEGREE, RECORD_LENGTH};
 use std::fmt::Debug;
 
 /// Runs the group.
@@ -31,7 +31,9 @@ fn same<T: PartialEq + Debug>(
 ) {
     let fits = match &result {
         Ok(done) => number == 0 && value(done),
-        Err(refusal) => refusal.number() == number && refusal.place as u64 == place,
+        Err(refusal) => {
+            (refusal.number, refusal.place as u64) == (number, place) && refusal.reason().is_some()
+        }
     };
     let flat = (number, place);
     assert!(fits, "{}{:?}: {:?}, flat {:?}", call, inputs, result, flat);
@@ -74,7 +76,7 @@ fn polynomials(pair: &mut Pair, random: &mut Random, f: u64, n: u32) {
     let result = sabrentuglio::search(f, a, last);
     let whole = (flat.element, flat.complexity, flat.grade, flat.count);
     let best = |best: &Option<sabrentuglio::Best>| match best {
-        Some(b) => (b.element, b.complexity, b.grade.number(), b.count) == whole,
+        Some(b) => (b.element, b.complexity, b.grade, b.count) == whole && b.kind().is_some(),
         None => flat.found == 0,
     };
     same(result, (flat.number, 0), best, ("search", &[f, a, last]));
@@ -109,7 +111,7 @@ fn sheets(pair: &mut Pair, random: &mut Random, field: &Field) {
     let at = (flat.number, flat.place);
     let whole = (flat.degree, flat.complexity, flat.grade);
     let result = sabrentuglio::read(&sheet);
-    let fits = |s: &sabrentuglio::Summary| (s.degree, s.complexity, s.grade.number()) == whole;
+    let fits = |s: &Summary| (s.degree, s.complexity, s.grade) == whole && s.kind().is_some();
     same(result, at, fits, ("read", &[]));
     let result = Sheet::read(&sheet[..]);
     same(result, at, |s| fits(&s.summary()), ("Sheet::read", &[]));
@@ -119,11 +121,11 @@ fn sheets(pair: &mut Pair, random: &mut Random, field: &Field) {
 fn lent(random: &mut Random, field: &Field) {
     let basis = field.any(random);
     let element = random.operand(field.n);
-    let mut buffers = [[9; 1472]; 2];
+    let mut buffers = [[9; RECORD_LENGTH * MAX_DEGREE]; 2];
     let flat = raw::build(basis.f, element, &mut buffers[0]);
     let result = sabrentuglio::build(basis.f, element, &mut buffers[1]);
     let whole = (flat.degree, flat.complexity, flat.grade);
-    let fits = |s: &sabrentuglio::Summary| (s.degree, s.complexity, s.grade.number()) == whole;
+    let fits = |s: &Summary| (s.degree, s.complexity, s.grade) == whole && s.kind().is_some();
     let at = (flat.number, flat.place);
     same(result, at, fits, ("build", &[basis.f, element]));
     assert_eq!(buffers[0], buffers[1]);
@@ -159,5 +161,5 @@ fn owned(random: &mut Random, field: &Field) {
         assert_eq!(twice.and_then(|v| sheet.to_polynomial(v)), Ok(square));
     }
     let refusal = sheet.list_to_normal(&[0, 1 << field.n]).unwrap_err();
-    assert_eq!((refusal.number(), refusal.place), (4, 1));
+    assert_eq!((refusal.number, refusal.place), (4, 1));
 }

@@ -1,6 +1,9 @@
 //! What was met: for each call how often it was done and how often each number
 //! refused it. [`Tally::close`] prints the table and says whether it is full.
 
+use sabrentuglio::{Grade, Reason};
+use std::collections::BTreeMap;
+
 /// The twelve calls, in the order of the table.
 #[derive(Clone, Copy, Debug)]
 pub enum Call {
@@ -19,7 +22,7 @@ pub enum Call {
 }
 
 /// The name of each call and document 01's order of its refusals.
-const ORDERS: [(&str, &[usize]); 12] = [
+const ORDERS: [(&str, &[u64]); 12] = [
     ("check", &[1, 2, 3]),
     ("multiply", &[1, 4]),
     ("square", &[1, 4]),
@@ -35,28 +38,40 @@ const ORDERS: [(&str, &[usize]); 12] = [
 ];
 
 /// Refusal 3 is in the table, but an f without divisors always returns x.
-const NEVER: usize = 3;
+const NEVER: u64 = 3;
 
 /// How often each of the other numbers is to be met at least.
 const OFTEN: u64 = 50;
 
-/// Counts for each call: done, then the twelve numbers.
+/// How often each number was met.
+type Counts = BTreeMap<u64, u64>;
+
+fn met(counts: &Counts, number: u64) -> u64 {
+    counts.get(&number).copied().unwrap_or(0)
+}
+
+/// The numbers of document 01's table.
+fn numbers() -> impl Iterator<Item = u64> {
+    Reason::ALL.iter().map(|reason| reason.number())
+}
+
+/// Counts for each call: done, as 0, and the numbers of the table.
 #[derive(Default)]
 pub struct Tally {
-    counts: [[u64; 13]; 12],
-    grades: [u64; 3],
+    counts: [Counts; 12],
+    grades: Counts,
     nothing: u64,
 }
 
 impl Tally {
     /// Counts an answer.
     pub fn count(&mut self, call: Call, number: u64) {
-        self.counts[call as usize][number as usize] += 1;
+        *self.counts[call as usize].entry(number).or_default() += 1;
     }
 
     /// Counts the grade of a sheet or of what a search found.
     pub fn count_grade(&mut self, grade: u64) {
-        self.grades[grade as usize] += 1;
+        *self.grades.entry(grade).or_default() += 1;
     }
 
     /// Counts a search that found nothing.
@@ -66,57 +81,63 @@ impl Tally {
 
     /// All answers so far.
     pub fn total(&self) -> u64 {
-        self.counts.iter().flatten().sum()
+        self.counts.iter().flat_map(Counts::values).sum()
     }
 
     /// How often a number was met, over all calls; 0 is done.
-    fn met(&self, number: usize) -> u64 {
-        self.counts.iter().map(|row| row[number]).sum()
+    fn met(&self, number: u64) -> u64 {
+        self.counts.iter().map(|row| met(row, number)).sum()
     }
 
     /// Prints the table and holds it against what has to be met.
     pub fn close(&self) {
         self.print();
-        for number in (1..=12).filter(|number| *number != NEVER) {
+        for number in numbers().filter(|number| *number != NEVER) {
             let met = self.met(number);
             assert!(met >= OFTEN, "refusal {} met {} times", number, met);
         }
         assert_eq!(self.met(NEVER), 0, "refusal 3 was met");
-        for met in self.grades.iter().chain([&self.nothing]) {
-            assert!(*met >= OFTEN, "a grade, or nothing, met {} times", met);
+        for grade in Grade::ALL {
+            let met = met(&self.grades, grade.number());
+            assert!(met >= OFTEN, "{:?} met {} times", grade, met);
         }
+        assert!(self.nothing >= OFTEN, "nothing met {} times", self.nothing);
         for ((name, order), row) in ORDERS.iter().zip(&self.counts) {
-            assert!(row[0] > 0, "{} was never done", name);
+            assert!(met(row, 0) > 0, "{} was never done", name);
             for number in order.iter().filter(|number| **number != NEVER) {
-                assert!(row[*number] > 0, "{} never refused {}", name, number);
+                assert!(met(row, *number) > 0, "{} never refused {}", name, number);
             }
+            let astray = row.keys().find(|n| **n != 0 && !order.contains(n));
+            assert_eq!(astray, None, "{} has no such refusal", name);
         }
     }
 
     fn print(&self) {
         print!("{:<20}{:>8}", "call", "done");
-        (1..=12).for_each(|number| print!("{:>7}", number));
+        numbers().for_each(|number| print!("{:>7}", number));
         println!();
         for ((name, order), row) in ORDERS.iter().zip(&self.counts) {
-            print!("{:<20}{:>8}", name, row[0]);
-            for (number, count) in row.iter().enumerate().skip(1) {
-                match (order.contains(&number), count) {
+            print!("{:<20}{:>8}", name, met(row, 0));
+            for number in numbers() {
+                match (order.contains(&number), met(row, number)) {
                     (false, 0) => print!("{:>7}", "."),
-                    _ => print!("{:>7}", count),
+                    (_, count) => print!("{:>7}", count),
                 }
             }
             println!();
         }
         print!("{:<20}{:>8}", "all", self.met(0));
-        (1..=12).for_each(|number| print!("{:>7}", self.met(number)));
+        numbers().for_each(|number| print!("{:>7}", self.met(number)));
         println!();
-        for number in 1..=12 {
+        for number in numbers() {
             match number {
                 NEVER if self.met(NEVER) == 0 => println!("refusal 3: no polynomial earns it"),
                 _ => println!("refusal {}: met {} times", number, self.met(number)),
             }
         }
-        println!("grades 0, 1, 2: met {:?} times", self.grades);
+        for (grade, count) in &self.grades {
+            println!("grade {}: met {} times", grade, count);
+        }
         println!("searches that found nothing: {}", self.nothing);
     }
 }

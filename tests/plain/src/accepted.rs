@@ -12,11 +12,13 @@
 
 use crate::answers::{refuse_if, Refusal};
 use crate::polynomial::{common_divisor, degree, derivative, product, squared};
+use crate::MAX_DEGREE;
 
-/// The degree n of f, where it is 2 to 46; refusal 1 otherwise.
+/// The degree n of f, where it is 2 to [`MAX_DEGREE`]; refusal 1
+/// otherwise.
 pub fn field_degree(f: u64) -> Result<u32, Refusal> {
     match degree(f) {
-        Some(n) if (2..=46).contains(&n) => Ok(n),
+        Some(n) if (2..=MAX_DEGREE).contains(&n) => Ok(n),
         _ => Err(Refusal::new(1)),
     }
 }

@@ -8,9 +8,7 @@ use crate::accepted::{field_degree, refuse_unaccepted};
 use crate::answers::{refuse_if, Issued, Refusal, Value};
 use crate::basis::{complexity, grade, product_of_coordinates, sum_of_picked, Basis};
 use crate::field::refuse_large;
-
-/// The length of one record.
-pub const RECORD: usize = 32;
+use crate::{MAX_DEGREE, RECORD_LENGTH};
 
 /// A sheet that passed the conditions 7, 8 and 9.
 pub struct Rows {
@@ -34,15 +32,16 @@ impl Rows {
     /// Takes a sheet apart: 7, then records from 0 upward with 8 before 9 in
     /// each.
     pub fn new(sheet: &[u8]) -> Result<Rows, Refusal> {
-        let n = sheet.len() / RECORD;
-        refuse_if(sheet.len() % RECORD != 0 || !(2..=46).contains(&n), 7)?;
+        let n = sheet.len() / RECORD_LENGTH;
+        let counts = 2..=MAX_DEGREE as usize;
+        refuse_if(sheet.len() % RECORD_LENGTH != 0 || !counts.contains(&n), 7)?;
         let mut basis = Basis {
             conjugates: Vec::new(),
             inverses: Vec::new(),
             table: Vec::new(),
         };
         let tail = &sheet[2..8];
-        for (i, record) in sheet.chunks(RECORD).enumerate() {
+        for (i, record) in sheet.chunks(RECORD_LENGTH).enumerate() {
             let head_fits =
                 usize::from(record[0]) == n && usize::from(record[1]) == i && &record[2..8] == tail;
             if !head_fits {
@@ -116,7 +115,7 @@ pub fn build(f: u64, element: u64, buffer: &mut [u8]) -> Issued {
 fn basis_to_write(f: u64, element: u64, room: usize) -> Result<Basis, Refusal> {
     let n = field_degree(f)?;
     refuse_large(n, &[element])?;
-    refuse_if(room < RECORD * n as usize, 6)?;
+    refuse_if(room < RECORD_LENGTH * n as usize, 6)?;
     refuse_unaccepted(f)?;
     Basis::new(f, element).ok_or_else(|| Refusal::new(5))
 }
@@ -131,7 +130,8 @@ fn rebuilt(sheet: &[u8]) -> Result<Basis, Refusal> {
     refuse_unaccepted(rows.f)?;
     let basis = Basis::new(rows.f, rows.basis.conjugates[0]).ok_or_else(|| Refusal::new(5))?;
     let right = sheet_of(rows.f, &basis);
-    let differs = |i: &usize| sheet[RECORD * i..][..RECORD] != right[RECORD * i..][..RECORD];
+    let record = |i: usize| RECORD_LENGTH * i..RECORD_LENGTH * (i + 1);
+    let differs = |i: &usize| sheet[record(*i)] != right[record(*i)];
     match (0..rows.degree as usize).find(differs) {
         Some(record) => Err(Refusal::at(10, record)),
         None => Ok(basis),
@@ -171,10 +171,10 @@ mod tests {
     use super::*;
 
     fn sheet(f: u64, element: u64) -> Vec<u8> {
-        let mut buffer = vec![0; RECORD * 46];
+        let mut buffer = vec![0; RECORD_LENGTH * MAX_DEGREE as usize];
         let answer = build(f, element, &mut buffer);
         assert_eq!(answer.number, 0);
-        buffer.truncate(RECORD * answer.degree as usize);
+        buffer.truncate(RECORD_LENGTH * answer.degree as usize);
         buffer
     }
 
@@ -199,8 +199,8 @@ mod tests {
         for row in [3u64, 1, 3] {
             second.extend_from_slice(&row.to_le_bytes());
         }
-        assert_eq!(buffer[32..64], second);
-        assert!(buffer[64..].iter().all(|byte| *byte == 9));
+        assert_eq!(buffer[RECORD_LENGTH..2 * RECORD_LENGTH], second);
+        assert!(buffer[2 * RECORD_LENGTH..].iter().all(|byte| *byte == 9));
         assert_eq!(build(11, 3, &mut buffer), answer(3, 5, 2));
         assert_eq!(build(19, 8, &mut buffer), answer(4, 7, 1));
         assert_eq!(build(19, 9, &mut buffer), answer(4, 9, 0));
@@ -215,7 +215,8 @@ mod tests {
         assert_eq!(build(11, 2, &mut buffer), refused(5, 0));
         assert_eq!(build(5, 1, &mut buffer), refused(2, 0));
         assert_eq!(build(3, 8, &mut buffer), refused(1, 0));
-        assert_eq!(build(5, 1, &mut buffer[..63]), refused(6, 0));
+        let short = &mut buffer[..2 * RECORD_LENGTH - 1];
+        assert_eq!(build(5, 1, short), refused(6, 0));
         assert_eq!(build(5, 4, &mut []), refused(4, 0));
         assert!(buffer.iter().all(|byte| *byte == 9));
     }
@@ -224,16 +225,17 @@ mod tests {
     fn reads() {
         let good = sheet(11, 3);
         assert_eq!(read(&good), answer(3, 5, 2));
-        assert_eq!(read(&sheet(7, 2)[32..]), refused(7, 0));
-        assert_eq!(read(&[&good[..32], &good[64..]].concat()), refused(8, 0));
+        assert_eq!(read(&sheet(7, 2)[RECORD_LENGTH..]), refused(7, 0));
+        let (first, last) = (&good[..RECORD_LENGTH], &good[2 * RECORD_LENGTH..]);
+        assert_eq!(read(&[first, last].concat()), refused(8, 0));
         let mut bad = good.clone();
-        bad[64 + 24] ^= 1;
-        bad[32 + 16] ^= 1;
+        bad[2 * RECORD_LENGTH + 24] ^= 1;
+        bad[RECORD_LENGTH + 16] ^= 1;
         assert_eq!(read(&bad), refused(10, 1));
-        bad[32 + 10] = 1;
-        bad[64] = 4;
+        bad[RECORD_LENGTH + 10] = 1;
+        bad[2 * RECORD_LENGTH] = 4;
         assert_eq!(read(&bad), refused(9, 1));
-        bad[33] = 0;
+        bad[RECORD_LENGTH + 1] = 0;
         assert_eq!(read(&bad), refused(8, 1));
         let mut bad = good.clone();
         bad[8] = 2;
@@ -247,7 +249,7 @@ mod tests {
         bad[7] = 1;
         assert_eq!(read(&bad), refused(9, 0));
         let mut bad = good;
-        bad[64 + 7] = 1;
+        bad[2 * RECORD_LENGTH + 7] = 1;
         assert_eq!(read(&bad), refused(8, 2));
     }
 
@@ -266,7 +268,7 @@ mod tests {
     fn a_product_through_the_sheet_is_the_product() {
         for (f, element) in [(11, 3), (19, 8), (19, 9)] {
             let sheet = sheet(f, element);
-            let n = sheet.len() / RECORD;
+            let n = sheet.len() / RECORD_LENGTH;
             for a in 0..1 << n {
                 assert_eq!(to_polynomial(&sheet, to_normal(&sheet, a).value).value, a);
                 for b in 0..1 << n {

@@ -134,6 +134,7 @@ fn moved_up(row: u64, i: usize, n: usize) -> u64 {
 #[cfg(test)]
 mod tests {
     use super::*;
+    use crate::MAX_DEGREE;
 
     /// Document 01's sentence, bit by bit.
     fn product_by_the_sentence(table: &[u64], a: u64, b: u64) -> u64 {
@@ -153,7 +154,7 @@ mod tests {
     #[test]
     fn product_as_the_sentence_on_any_table() {
         let mut seed = 1u64;
-        for n in 2..=46 {
+        for n in 2..=MAX_DEGREE {
             let below = (1u64 << n) - 1;
             let mut next = || {
                 seed = seed.wrapping_mul(6364136223846793005).wrapping_add(99991);

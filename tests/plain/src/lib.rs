@@ -5,11 +5,22 @@
 //! arithmetic; [`accepted`] the tests of f; [`basis`] the three matrices of a
 //! normal basis; [`field`], [`sheet`], [`lists`] and [`search`] the twelve calls.
 //!
-//! Nothing here is quick on purpose. Every 64-bit number is a legal argument of
-//! every call; on a refusal what was lent stays as it came.
+//! The limits are document 01's too and stand first. Nothing here is quick on
+//! purpose. Every 64-bit number is a legal argument of every call; on a refusal
+//! what was lent stays as it came.
 
 #![forbid(unsafe_code)]
 #![warn(missing_docs)]
+
+/// The highest degree of a defining polynomial, and so the most records of a
+/// sheet.
+pub const MAX_DEGREE: u32 = 46;
+
+/// The length of one record of a sheet in bytes.
+pub const RECORD_LENGTH: usize = 32;
+
+/// The most values of a list.
+pub const MAX_LIST: usize = 4096;
 
 pub mod accepted;
 pub mod answers;

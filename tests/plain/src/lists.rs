@@ -6,14 +6,12 @@
 use crate::answers::{refuse_if, Refusal, Value};
 use crate::basis::sum_of_picked;
 use crate::sheet::Rows;
-
-/// The longest list.
-pub const LONGEST: usize = 4096;
+use crate::MAX_LIST;
 
 /// What both ways do before they write.
 fn opened(sheet: &[u8], from: &[u64], into: &[u64]) -> Result<Rows, Refusal> {
     let rows = Rows::new(sheet)?;
-    refuse_if(from.len() != into.len() || from.len() > LONGEST, 11)?;
+    refuse_if(from.len() != into.len() || from.len() > MAX_LIST, 11)?;
     match from.iter().position(|value| *value >= 1 << rows.degree) {
         Some(index) => Err(Refusal::at(4, index)),
         None => Ok(rows),
@@ -44,10 +42,12 @@ pub fn list_to_normal(sheet: &[u8], from: &[u64], into: &mut [u64]) -> Value {
 #[cfg(test)]
 mod tests {
     use super::*;
-    use crate::build;
+    use crate::{build, RECORD_LENGTH};
 
-    fn sheet() -> [u8; 96] {
-        let mut buffer = [0; 96];
+    const TOO_MANY: usize = MAX_LIST + 1;
+
+    fn sheet() -> [u8; 3 * RECORD_LENGTH] {
+        let mut buffer = [0; 3 * RECORD_LENGTH];
         assert_eq!(build(11, 3, &mut buffer).number, 0);
         buffer
     }
@@ -64,21 +64,21 @@ mod tests {
 
     #[test]
     fn refuses_lists() {
-        let mut into = vec![9; 4097];
+        let mut into = vec![9; TOO_MANY];
         let refused = |number, place| Value::from(Err(Refusal { number, place }));
         let mut call = |from: &[u64], room| list_to_normal(&sheet(), from, &mut into[..room]);
         assert_eq!(call(&[1, 8, 9], 3), refused(4, 1));
         assert_eq!(call(&[1, 8, 9], 2), refused(11, 0));
         assert_eq!(call(&[1, 2, 3], 4), refused(11, 0));
-        assert_eq!(call(&[8; 4097], 4097), refused(11, 0));
-        assert_eq!(into, [9; 4097]);
+        assert_eq!(call(&[8; TOO_MANY], TOO_MANY), refused(11, 0));
+        assert_eq!(into, [9; TOO_MANY]);
         assert_eq!(list_to_normal(&sheet()[1..], &[8], &mut []), refused(7, 0));
     }
 
     #[test]
     fn the_longest_list_is_converted() {
-        let mut into = [0; LONGEST];
-        assert_eq!(list_to_normal(&sheet(), &[6; LONGEST], &mut into).number, 0);
-        assert_eq!(into, [3; LONGEST]);
+        let (from, mut into) = ([6; MAX_LIST], [0; MAX_LIST]);
+        assert_eq!(list_to_normal(&sheet(), &from, &mut into).number, 0);
+        assert_eq!(into, [3; MAX_LIST]);
     }
 }

@@ -7,7 +7,7 @@
 /// A line of the refusal table with its place.
 #[derive(Clone, Copy, Debug, PartialEq, Eq)]
 pub struct Refusal {
-    /// The number in the table, 1 to 12.
+    /// The number in the table.
     pub number: u64,
     /// The record or list index the table speaks of, else 0.
     pub place: u64,

@@ -19,7 +19,7 @@ pub fn check(f: u64) -> Value {
         .into()
 }
 
-/// Multiplication modulo any f of degree 2 to 46: 1, 4.
+/// Multiplication modulo any f whose degree is in range: 1, 4.
 pub fn multiply(f: u64, a: u64, b: u64) -> Value {
     field_degree(f)
         .and_then(|n| refuse_large(n, &[a, b]))
@@ -27,7 +27,7 @@ pub fn multiply(f: u64, a: u64, b: u64) -> Value {
         .into()
 }
 
-/// Squaring modulo any f of degree 2 to 46: 1, 4.
+/// Squaring modulo any f whose degree is in range: 1, 4.
 pub fn square(f: u64, a: u64) -> Value {
     field_degree(f)
         .and_then(|n| refuse_large(n, &[a]))
@@ -47,6 +47,7 @@ pub fn trace(f: u64, a: u64) -> Value {
 #[cfg(test)]
 mod tests {
     use super::*;
+    use crate::MAX_DEGREE;
 
     fn done(value: u64) -> Value {
         Ok(value).into()
@@ -61,7 +62,7 @@ mod tests {
         for f in [7, 11, 19] {
             assert_eq!(check(f), done(0));
         }
-        for f in [0, 1, 2, 3, 1 << 47, u64::MAX] {
+        for f in [0, 1, 2, 3, 1 << (MAX_DEGREE + 1), u64::MAX] {
             assert_eq!(check(f), refused(1));
         }
         assert_eq!(check(5), refused(2));
