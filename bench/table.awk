@@ -1,4 +1,4 @@
-# Makes the tables of docs/BENCHMARKS.md of the lines that desk.rs and ntl.cpp print (desk.rs has their form). A call that was timed
+# Makes the tables of a page of figures of the lines that desk.rs and ntl.cpp print (desk.rs has their form). A call that was timed
 # in several passes has the median of their times. What a program does not do, or did not run, is a dash.
 
 BEGIN {
