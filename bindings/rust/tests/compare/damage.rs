@@ -1,57 +1,57 @@
 //! Sheets that no builder wrote, made from one that it did.
 //!
-//! A field of a record is named by its first byte and its length, as in
+//! A column of a record is named by its first byte and its length, as in
 //! document 01's table of the sheet file.
 
 use crate::random::Random;
 use sabrentuglio::RECORD_LENGTH;
 
-/// A field of a record: first byte and length.
+/// A column of a record: first byte and length.
 #[derive(Clone, Copy)]
-pub struct Part {
+pub struct Column {
     pub first: usize,
     pub length: usize,
 }
 
 /// Degree, row number, f without its term x^n, and the three rows.
-pub const PARTS: [Part; 6] = [
-    Part {
+pub const COLUMNS: [Column; 6] = [
+    Column {
         first: 0,
         length: 1,
     },
-    Part {
+    Column {
         first: 1,
         length: 1,
     },
-    Part {
+    Column {
         first: 2,
         length: 6,
     },
-    Part {
+    Column {
         first: 8,
         length: 8,
     },
-    Part {
+    Column {
         first: 16,
         length: 8,
     },
-    Part {
+    Column {
         first: 24,
         length: 8,
     },
 ];
 
-/// The field with f.
-pub const TAIL: Part = PARTS[2];
+/// The column with f.
+pub const TAIL: Column = COLUMNS[2];
 
-/// The field with the conjugate row.
-pub const CONJUGATE: Part = PARTS[3];
+/// The column with the conjugate row.
+pub const CONJUGATE: Column = COLUMNS[3];
 
-/// Puts a number into a field of a record.
-pub fn put(sheet: &mut [u8], record: usize, part: Part, number: u64) {
-    let start = RECORD_LENGTH * record + part.first;
+/// Puts a number into a column of a record.
+pub fn put(sheet: &mut [u8], record: usize, column: Column, number: u64) {
+    let start = RECORD_LENGTH * record + column.first;
     let bytes = number.to_le_bytes();
-    sheet[start..start + part.length].copy_from_slice(&bytes[..part.length]);
+    sheet[start..start + column.length].copy_from_slice(&bytes[..column.length]);
 }
 
 /// Turns one bit of a sheet over.
@@ -59,18 +59,18 @@ pub fn flip(sheet: &mut [u8], bit: usize) {
     sheet[bit / 8] ^= 1 << (bit % 8);
 }
 
-/// Turns one bit of a field over.
-pub fn flip_in(sheet: &mut [u8], record: usize, part: Part, random: &mut Random) {
-    let bit = random.index(8 * part.length);
-    flip(sheet, 8 * (RECORD_LENGTH * record + part.first) + bit);
+/// Turns one bit of a column over.
+pub fn flip_in(sheet: &mut [u8], record: usize, column: Column, random: &mut Random) {
+    let bit = random.index(8 * column.length);
+    flip(sheet, 8 * (RECORD_LENGTH * record + column.first) + bit);
 }
 
-/// Puts a number of 2^n or more into a field of f or of a row.
-pub fn enlarge(sheet: &mut [u8], record: usize, part: Part, n: u32, random: &mut Random) {
-    let bits = 8 * part.length as u32;
+/// Puts a number of 2^n or more into a column of f or of a row.
+pub fn enlarge(sheet: &mut [u8], record: usize, column: Column, n: u32, random: &mut Random) {
+    let bits = 8 * column.length as u32;
     if n < bits {
         let high = 1 << (n + random.below(u64::from(bits - n)) as u32);
-        put(sheet, record, part, high + random.below(high));
+        put(sheet, record, column, high + random.below(high));
     }
 }
 
@@ -102,8 +102,8 @@ pub fn invented(n: u32, tail: u64, random: &mut Random) -> Vec<u8> {
     renumber(&mut sheet);
     refound(&mut sheet, tail);
     for i in 0..n as usize {
-        for part in &PARTS[3..] {
-            put(&mut sheet, i, *part, random.element(n));
+        for column in &COLUMNS[3..] {
+            put(&mut sheet, i, *column, random.element(n));
         }
     }
     sheet
@@ -137,16 +137,16 @@ pub fn damaged(sheet: &[u8], random: &mut Random) -> Vec<u8> {
         let record = random.index(count);
         match random.below(4) {
             0 => {
-                let part = random.pick(&PARTS);
-                flip_in(&mut sheet, record, part, random);
+                let column = random.pick(&COLUMNS);
+                flip_in(&mut sheet, record, column, random);
             }
             1 => {
-                let part = random.pick(&PARTS[2..]);
-                enlarge(&mut sheet, record, part, count as u32, random);
+                let column = random.pick(&COLUMNS[2..]);
+                enlarge(&mut sheet, record, column, count as u32, random);
             }
             _ => {
-                let part = random.pick(&PARTS[3..]);
-                put(&mut sheet, record, part, random.element(count as u32));
+                let column = random.pick(&COLUMNS[3..]);
+                put(&mut sheet, record, column, random.element(count as u32));
             }
         }
     }

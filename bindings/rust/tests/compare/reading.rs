@@ -1,8 +1,8 @@
 //! Reading, converting and multiplying on sheets good and bad.
 
 use crate::damage::{
-    damaged, enlarge, flip, flip_in, invented, put, rearranged, refound, renumber, CONJUGATE,
-    PARTS, TAIL,
+    damaged, enlarge, flip, flip_in, invented, put, rearranged, refound, renumber, COLUMNS,
+    CONJUGATE, TAIL,
 };
 use crate::fields::{Basis, Field, Fields, WIDEST};
 use crate::pair::Pair;
@@ -15,7 +15,7 @@ pub fn run(pair: &mut Pair, random: &mut Random, fields: &Fields) {
     for field in fields.all() {
         good(pair, random, field);
         for basis in &field.bases {
-            every_field(pair, random, field.n, basis);
+            every_column(pair, random, field.n, basis);
             moved_records(pair, random, basis);
             other_polynomials(pair, random, field, basis);
             other_elements(pair, random, field.n, basis);
@@ -77,17 +77,17 @@ fn every_bit(pair: &mut Pair, random: &mut Random, fields: &Fields) {
     }
 }
 
-/// Each field of each record: one bit over, and a number that is too large.
-fn every_field(pair: &mut Pair, random: &mut Random, n: u32, basis: &Basis) {
+/// Each column of each record: one bit over, and a number that is too large.
+fn every_column(pair: &mut Pair, random: &mut Random, n: u32, basis: &Basis) {
     for record in 0..n as usize {
-        for part in PARTS {
+        for column in COLUMNS {
             let mut sheet = basis.sheet.clone();
-            flip_in(&mut sheet, record, part, random);
+            flip_in(&mut sheet, record, column, random);
             pair.read(&sheet);
             pair.to_normal(&sheet, random.operand(n));
         }
         let mut sheet = basis.sheet.clone();
-        enlarge(&mut sheet, record, random.pick(&PARTS[2..]), n, random);
+        enlarge(&mut sheet, record, random.pick(&COLUMNS[2..]), n, random);
         ask(pair, random, n, &sheet);
         // A right head for another record or another degree.
         let mut sheet = basis.sheet.clone();
