@@ -20,12 +20,12 @@ use Rattle.field.specs.Field.{squared}
 use Rattle.field.specs.Accepted.{Accepted}
 use Rattle.field.specs.Checked.{accepted-degree, accepted-returns}
 use Rattle.normal.specs.Normal.{normal, tableRows}
-use Rattle.search.specs.Search.{leader, normalLeader, complexityAt, withCount, joined, ranged, countOf, counted}
+use Rattle.search.specs.Search.{leader, LeaderOf, normalLeader, complexityAt, withCount, joined, ranged, Answered, countOf, counted, Named}
 use Rattle.search.specs.Answers.{searchAnswer}
-use Rattle.search.specs.Leaders.{LeaderOf, leader-means, leader-exists, leader-normal}
-use Rattle.search.specs.Joined.{Answered, joined-count, joined-left, joined-right}
+use Rattle.search.specs.Leaders.{leader-means, leader-exists, leader-normal}
+use Rattle.search.specs.Joined.{joined-count, joined-left, joined-right}
 use Rattle.search.specs.Walks.{ranged-answered, ranged-count}
-use Rattle.search.specs.Named.{Named, ranged-nothing, ranged-found}
+use Rattle.search.specs.Named.{ranged-nothing, ranged-found}
 use Rattle.search.specs.Whole.{whole-best, whole-nothing}
 use Rattle.search.specs.Searched.{accepted-answer, search-joined}
 use Rattle.search.specs.declared.answer.Best.{Best}

@@ -1,23 +1,25 @@
--- The walk over a range in two parts: up to the first normal leader, and on from there with what is found.
+-- The walk over a range in two parts: up to the first normal leader, and on from it, joined to what is held from before.
 --
+--   RangeOf f n first last       f is accepted, of degree n, and first to last is a range of its elements
 --   FirstFrom f n first last r   r is the first normal leader from first to last, or the number after last where there is none
---   aloneBy n b c                the found record of the one normal leader b, of complexity c
 --
--- In order: the first part, turn by turn, and what it leaves of the range; the second part, turn by turn, with the bounds that its turns need.
+-- In order: the first part, turn by turn, and what it leaves of the range; the second part, turn by turn, with the bound that its turns need.
 -- Assumes nothing.
 use mathlib.Core.Path.{_≡_, sym, ap, ap₂, _∙_}
-use mathlib.Core.Logic.{⊎-elim}
 use mathlib.Core.Bool.{true, false}
-use Prim.Native.Nat.{ℕ, suc, _+_, _-_, _≤_, _<_}
+use Prim.Native.Nat.{ℕ, suc, _+_, _-_, _^_, _≤_, _<_}
 use native.Mathlib.Omega.{arith}
-use Rattle.gf2.specs.Truth.{bool-cases}
-use Rattle.normal.specs.Grades.{gradeOf}
-use Rattle.search.specs.Search.{normalLeader, better, alone, joined, candidateOf, walked, ranged}
-use Rattle.search.specs.Joined.{before, better-right, better-left, nothing-joined, joined-assoc}
-use Rattle.search.specs.Walks.{candidate-is, candidate-none, walked-none, walked-next, walked-cut}
-use Rattle.search.specs.declared.answer.Best.{Best}
+use Rattle.elements.specs.Fields.{FieldOf}
+use Rattle.search.specs.Search.{normalLeader, joined, candidateOf, walked, ranged, countOf}
+use Rattle.search.specs.Joined.{joined-nothing, nothing-joined, joined-assoc, joined-count-le}
+use Rattle.search.specs.Walks.{candidate-none, candidate-count-le, walked-none, walked-next, walked-cut}
 use Rattle.search.specs.declared.answer.Search.{Search}
-use Rattle.search.specs.declared.answer.Search.the-variants.{Nothing, Found}
+use Rattle.search.specs.declared.answer.Search.the-variants.{Nothing}
+
+pub record RangeOf (f n first last : ℕ) : Type 0 where
+  pub of-field : FieldOf f n
+  pub ordered : first ≤ last
+  pub elements : last < 2 ^ n
 
 pub record FirstFrom (f n first last r : ℕ) : Type 0 where
   pub since : first ≤ r
@@ -25,13 +27,10 @@ pub record FirstFrom (f n first last r : ℕ) : Type 0 where
   pub none : walked f n first (r - first) ≡ Nothing
   pub leads : r ≤ last → normalLeader f n r ≡ true
 
-abbrev pub aloneBy : (n b c : ℕ) → Best
-aloneBy n b c = record { element = b; complexity = c; grade = gradeOf n c; count = 1 }
-
 -- ---- up to the first normal leader
 
-pub first-start : (f n first : ℕ) → walked f n first (first - first) ≡ Nothing
-first-start f n first = let z : first - first ≡ 0 = omega arith in rw z (walked-none f n first)
+pub walked-start : (f n first : ℕ) → walked f n first (first - first) ≡ Nothing
+walked-start f n first = let z : first - first ≡ 0 = omega arith in rw z (walked-none f n first)
 
 module _ (f n first a : ℕ) (h : first ≤ a) where
   -- one more element
@@ -46,53 +45,45 @@ module _ (f n first a : ℕ) (h : first ≤ a) where
   first-turn e p = walked-to ∙ ap₂ joined e (candidate-none f n a p)
 
 module _ (f n first last r : ℕ) (begun : FirstFrom f n first last r) where
-  -- nothing is there
-  pub begun-nothing : last < r → Nothing ≡ ranged f n first last
+  -- what is before the first adds nothing
+  begun-rest : ranged f n first last ≡ walked f n r (last + 1 - r)
   unfolding ranged
-  begun-nothing h =
-      let s : r - first ≡ suc last - first = omega (arith, begun .upto) in
-      sym (begun .none) ∙ ap (walked f n first) s
+  begun-rest =
+      let s : suc last - first ≡ (r - first) + (last + 1 - r) = omega (arith, begun .since, begun .upto) in
+      let t : first + (r - first) ≡ r = omega (arith, begun .since) in
+      ap (walked f n first) s
+      ∙ walked-cut f n first (r - first) (last + 1 - r)
+      ∙ ap₂ joined (begun .none) (ap (λ (x : ℕ). walked f n x (last + 1 - r)) t)
+      ∙ nothing-joined (walked f n r (last + 1 - r))
 
-  -- the first is there, and the rest of the range is joined to it
-  pub begun-found : r ≤ last → joined (Found (alone f n r)) (walked f n (r + 1) (last + 1 - (r + 1))) ≡ ranged f n first last
-  unfolding ranged joined
-  begun-found h =
-      let k : ℕ = r - first in
-      let m : ℕ = last + 1 - (r + 1) in
-      let s : suc last - first ≡ k + (1 + m) = omega (arith, begun .since) in
-      let t : first + k ≡ r = omega (arith, begun .since) in
-      let one : walked f n r 1 ≡ Found (alone f n r) =
-      walked-next f n r 0 ∙ ap₂ joined (walked-none f n r) (ap (candidateOf f n) (omega arith) ∙ candidate-is f n r (begun .leads h)) in
-      sym
-      (ap (walked f n first) s
-      ∙ walked-cut f n first k (1 + m)
-      ∙ ap₂ joined (begun .none) (ap (λ (x : ℕ). walked f n x (1 + m)) t ∙ walked-cut f n r 1 m)
-      ∙ nothing-joined (joined (walked f n r 1) (walked f n (r + 1) m))
-      ∙ ap (λ (x : Search). joined x (walked f n (r + 1) m)) one)
+  -- nothing is there
+  pub begun-nothing : (held : Search) → last < r → held ≡ joined held (ranged f n first last)
+  begun-nothing held h =
+      let z : last + 1 - r ≡ 0 = omega (arith, begun .upto) in
+      sym (ap (joined held) (begun-rest ∙ ap (walked f n r) z ∙ walked-none f n r) ∙ joined-nothing held)
+
+  -- the first is there, and it is joined with the rest of the range
+  pub begun-found : (held w : Search) → w ≡ joined held (walked f n r (last + 1 - r)) → w ≡ joined held (ranged f n first last)
+  begun-found held w e = e ∙ ap (joined held) (sym begun-rest)
 
 -- ---- on from there
 
-module _ (f n next a : ℕ) (h : next ≤ a) (start x z : Best) (ez : Found z ≡ joined (Found x) (candidateOf f n a)) where
-  pub next-turn : Found x ≡ joined (Found start) (walked f n next (a - next)) → Found z ≡ joined (Found start) (walked f n next (a + 1 - next))
+pub next-start : (f n next : ℕ) (held : Search) → held ≡ joined held (walked f n next (next - next))
+next-start f n next held = sym (ap (joined held) (walked-start f n next) ∙ joined-nothing held)
+
+module _ (f n next a : ℕ) (h : next ≤ a) (held x z : Search) (ez : z ≡ joined x (candidateOf f n a)) where
+  pub next-turn : x ≡ joined held (walked f n next (a - next)) → z ≡ joined held (walked f n next (a + 1 - next))
   next-turn ex =
       ez ∙ ap (λ (y : Search). joined y (candidateOf f n a)) ex
-      ∙ joined-assoc (Found start) (walked f n next (a - next)) (candidateOf f n a)
-      ∙ ap (joined (Found start)) (sym (walked-to f n next a h))
+      ∙ joined-assoc held (walked f n next (a - next)) (candidateOf f n a)
+      ∙ ap (joined held) (sym (walked-to f n next a h))
 
-  -- the element found and the count stay within what has been walked
-  pub next-bounds : x .element ≤ a → x .count ≤ a → (z .element ≤ a + 1) × (z .count ≤ a + 1)
-  unfolding joined
-  next-bounds he hc =
-      ⊎-elim
-      (λ (p : normalLeader f n a ≡ true).
-      let e : Found z ≡ Found (better x (alone f n a)) = ez ∙ ap (joined (Found x)) (candidate-is f n a p) in
-      let q : z ≡ better x (alone f n a) = cc in
-      ⊎-elim
-      (λ (b : before (alone f n a) x ≡ true). rw (q, better-right x (alone f n a) b) (omega arith, omega arith))
-      (λ (b : before (alone f n a) x ≡ false). rw (q, better-left x (alone f n a) b) (omega arith, omega arith))
-      (bool-cases (before (alone f n a) x)))
-      (λ (p : normalLeader f n a ≡ false).
-      let e : Found z ≡ Found x = ez ∙ ap (joined (Found x)) (candidate-none f n a p) in
-      let q : z ≡ x = cc in
-      rw q (omega arith, omega arith))
-      (bool-cases (normalLeader f n a))
+  -- the count stays within what has been walked
+  pub next-count : countOf x ≤ a → countOf z ≤ a + 1
+  next-count l =
+      let e : countOf z ≤ countOf x + countOf (candidateOf f n a) = rw ez (joined-count-le x (candidateOf f n a)) in
+      omega (arith, candidate-count-le f n a)
+
+pub next-done : (f n next last a : ℕ) (held z : Search) → a ≤ last + 1 → last < a → z ≡ joined held (walked f n next (a - next))
+    → z ≡ joined held (walked f n next (last + 1 - next))
+next-done f n next last a held z p q e = let s : a ≡ last + 1 = omega arith in rw s at e

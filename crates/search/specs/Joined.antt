@@ -3,7 +3,6 @@
 --
 --   Precedes c e d g   what `precedes` tests
 --   before y x         the same of two found records
---   Answered w         w is no refusal
 --
 -- Assumes nothing.
 use mathlib.Core.Path.{_≡_, refl, sym, ap, _∙_}
@@ -13,10 +12,10 @@ use Prim.Native.Nat.{ℕ, _+_, _≤_, _<_}
 use native.Mathlib.Nat.{add-assoc, add-zero, zero-add}
 use native.Mathlib.Omega.{arith}
 use lib.Dec.{ltb, eqb}
-use borrow.Author.Tests.{lt-ltb, eq-eqb, ltb-true, eqb-true}
+use borrow.Author.Tests.{lt-ltb, le-ltb, eq-eqb, ne-eqb, ltb-true, eqb-true}
 use Rattle.gf2.specs.Numbers.{order}
 use Rattle.gf2.specs.Truth.{bool-cases, not-both, or-cases, or-right, not-true-false, and-both, and-parts}
-use Rattle.search.specs.Search.{precedes, withCount, better, joined, countOf}
+use Rattle.search.specs.Search.{precedes, withCount, better, joined, Answered, nothing, found, countOf}
 use Rattle.search.specs.declared.answer.Best.{Best}
 use Rattle.search.specs.declared.answer.Search.{Search}
 use Rattle.search.specs.declared.answer.Search.the-variants.{Refused, Nothing, Found}
@@ -39,6 +38,16 @@ precedes-means c e d g = (
       (λ (h : (c ≡ d) × (e < g)). or-right (ltb c d) (eqb c d && ltb e g) (and-both (eqb c d) (ltb e g) (eq-eqb c d (h .0)) (lt-ltb e g (h .1))))
       p,
 )
+
+-- by one comparison, as a tie or none
+pub precedes-tie : (c e d g : ℕ) → c ≡ d → precedes c e d g ≡ ltb e g
+unfolding precedes
+precedes-tie c e d g p = rw (le-ltb c d (omega arith), eq-eqb c d p)
+
+pub precedes-apart : (c e d g : ℕ) → (c ≡ d → ⊥) → precedes c e d g ≡ ltb c d
+unfolding precedes
+precedes-apart c e d g p =
+    ⊎-elim (λ (h : c < d). rw (lt-ltb c d h)) (λ (h : d ≤ c). rw (le-ltb c d h, ne-eqb c d p)) (order c d)
 
 -- not before: more ones, or as many and no smaller element
 pub not-precedes : (c e d g : ℕ) → precedes c e d g ≡ false → (d < c) ⊎ ((d ≡ c) × (g ≤ e))
@@ -173,11 +182,6 @@ joined-right x y h = ap Found (better-right x y (precedes-means (y .complexity) 
 
 -- ---- counts
 
--- an answer that is no refusal
-pub data Answered : Search → Type 0 where
-  nothing : Answered Nothing
-  found : (x : Best) → Answered (Found x)
-
 pub joined-answered : {x y : Search} → Answered x → Answered y → Answered (joined x y)
 unfolding joined
 joined-answered p nothing = p
@@ -189,3 +193,12 @@ unfolding joined countOf
 joined-count {x} p nothing = sym (add-zero (countOf x))
 joined-count nothing (found y) = sym (zero-add (y .count))
 joined-count (found x) (found y) = better-count x y
+
+-- whatever the two are
+pub joined-count-le : (x y : Search) → countOf (joined x y) ≤ countOf x + countOf y
+unfolding joined countOf
+joined-count-le x (Refused k) = omega arith
+joined-count-le x Nothing = omega arith
+joined-count-le (Refused k) (Found y) = omega arith
+joined-count-le Nothing (Found y) = omega arith
+joined-count-le (Found x) (Found y) = omega (arith, better-count x y)

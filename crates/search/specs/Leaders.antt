@@ -1,8 +1,5 @@
 -- Class leaders: what the test says; every element has exactly one among its conjugates, which is no larger; that of a normal element
 -- is normal and has the same table.
---
---   LeaderOf f n a l   l is a conjugate of a and a class leader, and every class leader among the conjugates of a is l
---
 -- Assumes nothing.
 use mathlib.Core.Path.{_≡_, refl, sym, ap, _∙_}
 use mathlib.Core.Logic.{_↔_, ⊎-elim}
@@ -21,7 +18,7 @@ use Rattle.rows.specs.Rows.{Independent}
 use Rattle.normal.specs.Normal.{conjugates, normal, tableRows}
 use Rattle.normal.specs.Coordinates.{normal-means}
 use Rattle.normal.specs.Conjugated.{conjugate-normal, table-of-conjugate}
-use Rattle.search.specs.Search.{leader}
+use Rattle.search.specs.Search.{leader, LeaderOf}
 
 -- ---- the test
 
@@ -44,14 +41,6 @@ unfolding leader smaller
 not-leader f n a i h l = ap not (some-means n (smaller f n a) .1 (i, h, lt-ltb (squared f n i a) a l))
 
 -- ---- the leader of an element
-
-pub record LeaderOf (f n a l : ℕ) : Type 0 where
-  pub index : ℕ
-  pub within : index < n
-  pub conjugate : squared f n index a ≡ l
-  pub leads : leader f n l ≡ true
-  pub least : l ≤ a
-  pub only : (j : ℕ) → j < n → leader f n (squared f n j a) ≡ true → squared f n j a ≡ l
 
 -- the index of the smallest of the first suc k values of g
 smallest : (g : ℕ → ℕ) (k : ℕ) → (i : ℕ) × (i ≤ k) × ((j : ℕ) → j ≤ k → g i ≤ g j)

@@ -1,7 +1,6 @@
 -- What the walk over a range names: the best normal leader there, and nothing exactly where there is none.
 --
---   Named f n first last x     the found record x names the best normal leader from first to last
---   Names f n first stop x     the same from first to below stop, by the order of complexities and elements
+--   Names f n first stop x     the found record x names the best normal leader from first to below stop, by the order of complexities and elements
 --   Answers f n first stop w   w is the right answer there, but for its count
 --
 -- Assumes nothing.
@@ -13,31 +12,20 @@ use native.Mathlib.Nat.{le-refl, le-antisymm, add-zero, add-suc, add-sub-of-le}
 use native.Mathlib.Omega.{arith}
 use Rattle.gf2.specs.Numbers.{order}
 use Rattle.gf2.specs.Truth.{bool-cases, not-both, not-true-false}
-use Rattle.normal.specs.Grades.{gradeOf}
 use Rattle.normal.specs.declared.grade.Grade.{Grade}
-use Rattle.search.specs.Search.{normalLeader, alone, complexityAt, precedes, withCount, joined, candidateOf, walked, ranged, countOf, counted}
-use Rattle.search.specs.Joined.{not-precedes, precedes-trans, precedes-self, before, better-right, better-left, joined-nothing, Answered, nothing, found}
+use Rattle.search.specs.Search.{normalLeader, complexityAt, gradeAt, foundBy, alone, precedes, withCount, joined, candidateOf, walked, ranged, Answered, nothing, found, countOf, counted, Named}
+use Rattle.search.specs.Joined.{not-precedes, precedes-trans, precedes-self, before, better-right, better-left, joined-nothing}
 use Rattle.search.specs.declared.answer.Best.{Best}
 use Rattle.search.specs.declared.answer.Search.{Search}
 use Rattle.search.specs.declared.answer.Search.the-variants.{Nothing, Found}
 use Rattle.search.specs.Walks.{candidate-is, candidate-none, ranged-count, ranged-answered}
-
--- "Found names least complexity, then smallest element"
-pub record Named (f n first last : ℕ) (x : Best) : Type 0 where
-  pub from : first ≤ x .element
-  pub upto : x .element ≤ last
-  pub leads : normalLeader f n (x .element) ≡ true
-  pub ones : x .complexity ≡ complexityAt f n (x .element)
-  pub graded : x .grade ≡ gradeOf n (x .complexity)
-  pub fewest : (a : ℕ) → first ≤ a → a ≤ last → normalLeader f n a ≡ true → x .complexity ≤ complexityAt f n a
-  pub smallest : (a : ℕ) → first ≤ a → a ≤ last → normalLeader f n a ≡ true → complexityAt f n a ≡ x .complexity → x .element ≤ a
 
 record Names (f n first stop : ℕ) (x : Best) : Type 0 where
   pub from : first ≤ x .element
   pub below : x .element < stop
   pub leads : normalLeader f n (x .element) ≡ true
   pub ones : x .complexity ≡ complexityAt f n (x .element)
-  pub graded : x .grade ≡ gradeOf n (x .complexity)
+  pub graded : x .grade ≡ gradeAt f n (x .element)
   pub least : (a : ℕ) → first ≤ a → a < stop → normalLeader f n a ≡ true
       → precedes (complexityAt f n a) a (x .complexity) (x .element) ≡ false
 
@@ -73,6 +61,7 @@ module _ (f n first m : ℕ) (h : first ≤ m) where
     -- none of those met comes before it
     taken : (k : ℕ) → ((a : ℕ) → first ≤ a → a < m → normalLeader f n a ≡ true → precedes (complexityAt f n a) a (complexityAt f n m) m ≡ false)
         → Names f n first (suc m) (withCount here k)
+    unfolding foundBy gradeAt
     taken k all =
         record {
           from = h;
@@ -84,7 +73,7 @@ module _ (f n first m : ℕ) (h : first ≤ m) where
         }
 
     joined-here : {w : Search} → Answers f n first m w → Answers f n first (suc m) (joined w (Found here))
-    unfolding joined
+    unfolding joined foundBy
     joined-here (none empty) = best here (taken 1 (λ a p u t. absurd (empty a p u t)))
     joined-here (best x s) =
         ⊎-elim
@@ -139,7 +128,7 @@ module _ (f n first last : ℕ) where
       le-antisymm (rw (← t .ones) at (s .fewest (y .element) (t .from) (t .upto) (t .leads))) (rw (← s .ones) at (t .fewest (x .element) (s .from) (s .upto) (s .leads))) in
       let e : x .element ≡ y .element =
       le-antisymm (s .smallest (y .element) (t .from) (t .upto) (t .leads) (sym (t .ones) ∙ sym c)) (t .smallest (x .element) (s .from) (s .upto) (s .leads) (sym (s .ones) ∙ c)) in
-      let g : x .grade ≡ y .grade = s .graded ∙ ap (gradeOf n) c ∙ sym (t .graded) in
+      let g : x .grade ≡ y .grade = s .graded ∙ ap (gradeAt f n) e ∙ sym (t .graded) in
       best-same x y e c g (sym k)
 
   module _ (h : first ≤ last) where

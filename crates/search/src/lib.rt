@@ -1,14 +1,9 @@
 // The search of a range for the normal basis of least complexity (document 01, "Search").
 mod answer;
+mod joining;
 mod leader;
-mod reference;
 mod searching;
-mod squares;
-mod traces;
-mod units;
-mod upper;
 mod walking;
-mod windows;
 
 pub use answer::Best;
 pub use answer::Search;

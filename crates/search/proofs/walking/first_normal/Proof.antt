@@ -5,24 +5,24 @@ use Prim.Native.Nat.{_+_, _-_, _≤_}
 use native.Mathlib.Omega.{arith}
 use lib.Pow.{pow-mono}
 use Rattle.search.specs.Search.{walked}
-use Rattle.search.specs.Begun.{first-start, first-turn}
+use Rattle.search.specs.Begun.{walked-start, first-turn}
 use Rattle.search.specs.declared.answer.Search.the-variants.{Nothing}
 use Rattle.search.proofs.walking.first_normal.Statement.{statement}
 use Rattle.search.proofs.walking.first_normal.Tie as tie
 
 abbrev Inv-loop : tie.InvT-loop
-Inv-loop spread squares mask f n first last a₀ a = (first ≤ a) × (a ≤ last + 1) × (walked f n first (a - first) ≡ Nothing)
+Inv-loop spread squares m first last a₀ a = (first ≤ a) × (a ≤ last + 1) × (walked (m .f) (m .n) first (a - first) ≡ Nothing)
 
 abbrev μ-loop : tie.MeasureT-loop
-μ-loop spread squares mask f n first last a₀ a = last + 1 - a
+μ-loop spread squares m first last a₀ a = last + 1 - a
 
 loop-holds : tie.Need-loop-holds Inv-loop μ-loop
-loop-holds c = (omega arith, omega (arith, c .pre .8), first-start (c .args .f) (c .args .n) (c .args .first))
+loop-holds c = (omega arith, omega (arith, c .pre .3), walked-start (c .args .m .f) (c .args .m .n) (c .args .first))
 
 is-normal-leader-requires : tie.Need-is-normal-leader-requires Inv-loop μ-loop
 is-normal-leader-requires c κs =
     let s = c .before .before in
-    (s .pre .0, s .pre .1, s .pre .2, s .pre .3, s .pre .4, s .pre .5, s .pre .6, s .pre .7, omega (arith, s .pre .9, c .loop-test .taken))
+    (s .pre .0, s .pre .1, s .pre .2, omega (arith, s .pre .4, c .loop-test .taken))
 
 returns : tie.Need-returns Inv-loop μ-loop
 returns c =
@@ -40,7 +40,7 @@ add-a : tie.Need-add-a Inv-loop μ-loop
 add-a c =
     let i = c .before .before in
     let s = i .before .before in
-    omega (arith, s .pre .9, pow-mono (s .pre .4), i .loop-test .taken)
+    omega (arith, s .pre .4, pow-mono (s .pre .2 .of-field .most), i .loop-test .taken)
 
 loop-less : tie.Need-loop-less Inv-loop μ-loop
 loop-less c = omega arith
@@ -53,7 +53,7 @@ loop-again c =
     let s = l .before in (
       omega (arith, l .loop .inv .0),
       omega (arith, i .loop-test .taken),
-      first-turn (s .args .f) (s .args .n) (s .args .first) (l .loop .a) (l .loop .inv .0) (l .loop .inv .2) (sym (t .is-normal-leader .ensures) ∙ c .if1 .left),
+      first-turn (s .args .m .f) (s .args .m .n) (s .args .first) (l .loop .a) (l .loop .inv .0) (l .loop .inv .2) (sym (t .is-normal-leader .ensures) ∙ c .if1 .left),
     )
 
 returns-2 : tie.Need-returns-2 Inv-loop μ-loop

@@ -6,10 +6,9 @@ use Prim.Native.Nat.{ℕ}
 use borrow.Author.Needs.{needs}
 use borrow.Author.Tests.{not-true, not-false}
 use Rattle.normal.specs.Normal.{normal}
+use Rattle.elements.specs.Built.{built-normal}
 use Rattle.search.specs.Search.{leader, normalLeader}
-use Rattle.search.specs.Walks.{no-leader}
-use Rattle.search.specs.Traces.{no-trace-not-normal}
-use Rattle.search.specs.Through.{built-normal}
+use Rattle.search.specs.Walks.{no-leader, no-trace}
 use Rattle.search.proofs.walking.is_normal_leader.Statement.{statement}
 use Rattle.search.proofs.walking.is_normal_leader.Tie as tie
 
@@ -24,17 +23,20 @@ returns : tie.Need-returns
 returns c =
     let t = c .before in
     let s = t .before in
-    sym (no-trace-not-normal (s .args .f) (s .args .n) (s .pre .5) (s .pre .3) (s .pre .6) (s .pre .7) (s .args .a) (s .pre .8)
-    (sym (t .has-trace .ensures) ∙ not-true (t .has-trace .result) (c .if1 .taken)))
+    let m = s .args .m in
+    sym (no-trace (m .f) (m .n) (s .args .a) (s .pre .2 .of-field) (s .pre .3) (sym (t .has-trace .ensures) ∙ not-true (t .has-trace .result) (c .if1 .taken)))
 
 is-leader-requires : tie.Need-is-leader-requires
-is-leader-requires c κs = search needs
+is-leader-requires c κs =
+    let s = c .before .before in
+    (s .pre .1, s .pre .2 .of-field, s .pre .3)
 
 returns-2 : tie.Need-returns-2
 returns-2 c =
     let l = c .before in
     let s = l .before .before .before in
-    sym (no-leader (s .args .f) (s .args .n) (s .args .a) (sym (l .is-leader .ensures) ∙ not-true (l .is-leader .result) (c .if2 .taken)))
+    let m = s .args .m in
+    sym (no-leader (m .f) (m .n) (s .args .a) (sym (l .is-leader .ensures) ∙ not-true (l .is-leader .result) (c .if2 .taken)))
 
 build-basis-requires : tie.Need-build-basis-requires
 build-basis-requires c κs = search needs
@@ -44,8 +46,9 @@ returns-3 c =
     let e = c .before in
     let l = e .before in
     let s = l .before .before .before in
-    built-normal (s .args .f) (s .args .n) (s .args .a) (c .build-basis .result) (c .build-basis .ensures)
-    ∙ of-leader (s .args .f) (s .args .n) (s .args .a) (sym (l .is-leader .ensures) ∙ not-false (l .is-leader .result) (e .if2 .left))
+    let m = s .args .m in
+    built-normal (m .f) (m .n) (s .args .a) (c .build-basis .result) (c .build-basis .ensures)
+    ∙ of-leader (m .f) (m .n) (s .args .a) (sym (l .is-leader .ensures) ∙ not-false (l .is-leader .result) (e .if2 .left))
 
 pub is-normal-leader-spec : {M : Type 1} → statement M
 is-normal-leader-spec =

@@ -1,137 +1,76 @@
--- `search::walking::walk` meets its contract: nothing is there, or the first normal leader is the reference for the rest of the range.
+-- `search::walking::walk` meets its contract: nothing is there, or the first normal leader is the reference for it and the rest of the range.
 -- Assumes nothing.
-use mathlib.Core.Path.{_≡_, refl, ap, _∙_}
-use mathlib.Core.Bool.{true}
-use mathlib.Core.List.{List}
-use Prim.Native.Nat.{ℕ, _+_, _-_, _≤_, _<_, _^_}
 use native.Mathlib.Omega.{arith}
-use lib.ListN.{take}
-use lib.Pow.{pow-mono}
-use borrow.Author.Needs.{needs}
-use Rattle.gf2.specs.Poly.{Degree}
-use Rattle.gf2.specs.Limit.{limit}
-use Rattle.field.specs.Field.{squared}
-use Rattle.rows.specs.ByteSums.{bytes, byteSums}
-use Rattle.normal.specs.Normal.{normal, complexity}
-use Rattle.normal.specs.Basis.{builtOf}
-use Rattle.normal.specs.declared.basis.Built.{Built}
-use Rattle.search.specs.Search.{joined, walked, ranged}
+use Rattle.elements.specs.Traces.{ModulusOf}
 use Rattle.search.specs.Walks.{leader-is-normal}
-use Rattle.search.specs.Through.{Reference, built-complexity, built-inverse}
-use Rattle.search.specs.Begun.{FirstFrom, aloneBy, begun-nothing, begun-found}
-use Rattle.search.specs.declared.answer.Best.{Best}
-use Rattle.search.specs.declared.answer.Search.the-variants.{Found}
+use Rattle.search.specs.Begun.{begun-nothing, begun-found}
 use Rattle.search.proofs.walking.walk.Statement.{statement}
 use Rattle.search.proofs.walking.walk.Tie as tie
 
-module _ (f n first last b : ℕ) (begun : FirstFrom f n first last b) (there : b ≤ last) (built : Built) (eb : built ≡ builtOf f n b) where
-  is-normal : normal f n b ≡ true
-  is-normal = leader-is-normal f n b (begun .leads there)
-
-  reference : (sums : List ℕ) → 2 ≤ n → n ≤ limit → Degree f n → squared f n n 2 ≡ 2 → last < 2 ^ n → sums ≡ byteSums bytes (built .basis .inverse)
-      → Reference f n b sums
-  reference sums two most deg back h es = record {
-    two = two;
-    most = most;
-    is-degree = deg;
-    returns = back;
-    below = omega (arith, there, h);
-    is-normal = is-normal;
-    held = es ∙ ap (byteSums bytes) (built-inverse f n b built eb is-normal);
-  }
-
-  whole : (start r : Best) → start ≡ aloneBy n b (complexity (take n (built .basis .table)))
-      → Found r ≡ joined (Found start) (walked f n (b + 1) (last + 1 - (b + 1))) → Found r ≡ ranged f n first last
-  whole start r es er =
-      let c : complexity (take n (built .basis .table)) ≡ _ = built-complexity f n b built eb is-normal (complexity (take n (built .basis .table))) refl in
-      er
-      ∙ ap (λ (x : Best). joined (Found x) (walked f n (b + 1) (last + 1 - (b + 1)))) (es ∙ ap (aloneBy n b) c)
-      ∙ begun-found f n first last b begun there
-
--- the element and the count that the walk goes on with
-started : (n b c : ℕ) (start : Best) → start ≡ aloneBy n b c → (start .element ≤ b + 1) × (start .count ≤ b + 1)
-started n b c start e = rw e (omega arith, omega arith)
-
 square-sums-requires : tie.Need-square-sums-requires
-square-sums-requires c κs = search needs
+square-sums-requires c κs = (c .pre .0, c .pre .1 .of-field)
 
 trace-mask-requires : tie.Need-trace-mask-requires
-trace-mask-requires c κs = search needs
+trace-mask-requires c κs = (c .before .square-sums .ensures, c .before .before .pre .1 .of-field)
+
+-- f, its degree and its mask
+modulus : (c : tie.After-trace-mask) → let s = c .before .before .before in
+    ModulusOf (record { f = s .args .f; n = s .args .n; mask = c .trace-mask .result })
+modulus c = record { of-field = c .before .before .before .pre .1 .of-field; of-mask = c .trace-mask .ensures }
 
 first-normal-requires : tie.Need-first-normal-requires
-first-normal-requires c κs = search needs
+first-normal-requires c κs =
+    let t = c .before in
+    let q = t .before .before in
+    let s = q .before in
+    (s .pre .0, q .square-sums .ensures, modulus t, s .pre .1 .ordered, s .pre .1 .elements)
 
 returns : tie.Need-returns
 returns c =
     let b = c .before in
     let s = b .before .before .before .before .before in
-    begun-nothing (s .args .f) (s .args .n) (s .args .first) (s .args .last) (b .first-normal .result) (b .first-normal .ensures) (c .if1 .taken)
+    begun-nothing (s .args .f) (s .args .n) (s .args .first) (s .args .last) (b .first-normal .result) (b .first-normal .ensures) (s .args .held) (c .if1 .taken)
 
-build-basis-requires : tie.Need-build-basis-requires
-build-basis-requires c κs = search needs
-
-byte-sums-requires : tie.Need-byte-sums-requires
-byte-sums-requires c κs = search needs
+reference-sums-requires : tie.Need-reference-sums-requires
+reference-sums-requires c κs =
+    let b = c .before in
+    let s = b .before .before .before .before .before in (
+      s .pre .0,
+      s .pre .1 .of-field,
+      omega (arith, c .if1 .left, s .pre .1 .elements),
+      leader-is-normal (s .args .f) (s .args .n) (b .first-normal .result) (b .first-normal .ensures .leads (c .if1 .left)),
+    )
 
 upper-sums-requires : tie.Need-upper-sums-requires
-upper-sums-requires c κs =
-    let t = c .before in
-    let k = t .before .before .before .before in
-    let e = k .before in
-    let b = e .before in
-    let s = b .before .before .before .before .before in
-    let args = s .args in
-    reference (args .f) (args .n) (args .first) (args .last) (b .first-normal .result) (b .first-normal .ensures) (e .if1 .left)
-    (k .build-basis .result) (k .build-basis .ensures) _ (s .pre .1) (s .pre .2) (s .pre .3) (s .pre .5) (s .pre .7) (t .byte-sums .ensures)
-
-alone-requires : tie.Need-alone-requires
-alone-requires c κs = search needs
-
-add-walk-on : tie.Need-add-walk-on
-add-walk-on c =
-    let k = c .before .before .before .before .before .before .before .before .before .before in
-    let e = k .before in
-    let s = e .before .before .before .before .before .before in
-    omega (arith, e .if1 .left, s .pre .7, pow-mono (s .pre .2))
+upper-sums-requires c κs = c .before .reference-sums .ensures
 
 walk-on-requires : tie.Need-walk-on-requires
 walk-on-requires c κs =
-    let a = c .before .before .before in
-    let u = a .before in
-    let t = u .before .before in
-    let k = t .before .before .before .before in
-    let e = k .before in
+    let u = c .before .before .before in
+    let r = u .before .before in
+    let e = r .before in
     let b = e .before in
-    let m = b .before .before in
-    let q = m .before .before in
-    let s = q .before in
-    let args = s .args in
-    let ref = reference (args .f) (args .n) (args .first) (args .last) (b .first-normal .result) (b .first-normal .ensures) (e .if1 .left)
-    (k .build-basis .result) (k .build-basis .ensures) _ (s .pre .1) (s .pre .2) (s .pre .3) (s .pre .5) (s .pre .7) (t .byte-sums .ensures) in
-    let start = started (args .n) (b .first-normal .result) _ (a .alone .result) (a .alone .ensures) in (
-      s .pre .0,
-      record { reference = ref; of-squares = q .square-sums .ensures; of-uppers = u .upper-sums .ensures },
-      m .trace-mask .ensures,
-      s .pre .4,
-      omega (arith, e .if1 .left),
-      s .pre .7,
-      start .0,
-      start .1,
+    let t = b .before .before in
+    let q = t .before .before in
+    let s = q .before in (
+      record {
+        of-modulus = modulus t;
+        of-squares = q .square-sums .ensures;
+        reference = r .reference-sums .ensures;
+        of-uppers = u .upper-sums .ensures;
+      },
+      b .first-normal .ensures .upto,
+      s .pre .1 .elements,
+      omega (arith, s .pre .2, b .first-normal .ensures .since),
     )
 
 returns-2 : tie.Need-returns-2
 returns-2 c =
-    let a = c .before .before .before .before in
-    let t = a .before .before .before in
-    let k = t .before .before .before .before in
-    let e = k .before in
+    let e = c .before .before .before .before .before .before .before in
     let b = e .before in
-    let m = b .before .before in
-    let q = m .before .before in
-    let s = q .before in
-    let args = s .args in
-    whole (args .f) (args .n) (args .first) (args .last) (b .first-normal .result) (b .first-normal .ensures) (e .if1 .left)
-    (k .build-basis .result) (k .build-basis .ensures) (a .alone .result) (c .walk-on .result) (a .alone .ensures) (c .walk-on .ensures)
+    let s = b .before .before .before .before .before in
+    begun-found (s .args .f) (s .args .n) (s .args .first) (s .args .last) (b .first-normal .result) (b .first-normal .ensures) (s .args .held)
+    (c .walk-on .result) (c .walk-on .ensures)
 
 pub walk-spec : {M : Type 1} → statement M
 walk-spec =
@@ -141,10 +80,7 @@ walk-spec =
     trace-mask-requires
     first-normal-requires
     returns
-    build-basis-requires
-    byte-sums-requires
+    reference-sums-requires
     upper-sums-requires
-    alone-requires
-    add-walk-on
     walk-on-requires
     returns-2)

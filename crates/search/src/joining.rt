@@ -1,0 +1,94 @@
+// Found records: the one place where they are made, and how one more is joined to what is held.
+ghost use mathlib.Core.Path.{_≡_};
+ghost use mathlib.Core.Bool.{true};
+ghost use Prim.Native.Nat.{_+_, _^_, _<_};
+ghost use Rattle.elements.specs.Fields.{FieldOf};
+ghost use Rattle.elements.specs.Decided.{Decides};
+ghost use Rattle.search.specs.Search.{leader, precedes, withCount, better, joined, foundBy, candidateOf, countOf};
+ghost use Rattle.search.specs.Joining.{boundOf};
+ghost use Rattle.search.specs.declared.answer.Search.the-variants.{Found};
+use super::answer::Best;
+use super::answer::Search;
+use elements::Decided;
+use normal::grade_of;
+
+// The found record of the normal leader a, whose table has so many ones. No other place makes one.
+fn found_by(f: u64, n: u32, a: u64, ones: u32) -> Best
+    requires { ⌜ FieldOf f n ⌝ }
+    ensures { λ r. ⌜ r ≡ foundBy f n a ones ⌝ }
+{
+    let grade = grade_of(n, ones);
+    Best {
+        element: a,
+        complexity: ones,
+        grade,
+        count: 1,
+    }
+}
+
+// A found record with another count.
+fn with_count(x: Best, count: u64) -> Best
+    ensures { λ r. ⌜ r ≡ withCount x count ⌝ }
+{
+    let grade = x.grade;
+    Best {
+        element: x.element,
+        complexity: x.complexity,
+        grade,
+        count,
+    }
+}
+
+// "least complexity, then smallest element": whether complexity c and element e come before complexity d and element g.
+fn comes_before(c: u32, e: u64, d: u32, g: u64) -> bool
+    ensures { λ r. ⌜ r ≡ precedes c e d g ⌝ }
+{
+    if c == d { e < g } else { c < d }
+}
+
+// The better of two found records, with the counts of both.
+fn better_of(x: Best, y: Best) -> Best
+    requires { ⌜ x .count + y .count < 2 ^ 64 ⌝ }
+    ensures { λ r. ⌜ r ≡ better x y ⌝ }
+{
+    let count = x.count + y.count;
+    if comes_before(y.complexity, y.element, x.complexity, x.element) {
+        with_count(y, count)
+    } else {
+        with_count(x, count)
+    }
+}
+
+// How many ones a table may have and still be the best: a count may be broken off above it.
+pub fn bound_of(held: Search) -> u32
+    ensures { λ r. ⌜ r ≡ boundOf held ⌝ }
+{
+    match held {
+        Search::Refused(_) => 0,
+        Search::Nothing => 4294967295,
+        Search::Found(x) => x.complexity,
+    }
+}
+
+// What is held, joined with the normal leader a, whose table has so many ones.
+fn join_leader(f: u64, n: u32, held: Search, a: u64, ones: u32) -> Search
+    requires { ⌜ FieldOf f n × (countOf held + 1 < 2 ^ 64) ⌝ }
+    ensures { λ r. ⌜ r ≡ joined held (Found (foundBy f n a ones)) ⌝ }
+{
+    match held {
+        Search::Refused(number) => Search::Refused(number),
+        Search::Nothing => Search::Found(found_by(f, n, a, ones)),
+        Search::Found(x) => Search::Found(better_of(x, found_by(f, n, a, ones))),
+    }
+}
+
+// What is held, joined with the leader a, of which it is decided whether it is normal.
+pub fn join_decided(f: u64, n: u32, held: Search, a: u64, decided: Decided) -> Search
+    requires { ⌜ FieldOf f n × (countOf held + 1 < 2 ^ 64) × (leader f n a ≡ true) × Decides f n a (boundOf held) decided ⌝ }
+    ensures { λ r. ⌜ r ≡ joined held (candidateOf f n a) ⌝ }
+{
+    match decided {
+        Decided::NotNormal => held,
+        Decided::Normal(ones) => join_leader(f, n, held, a, ones),
+    }
+}
