@@ -4,6 +4,7 @@ pub mod Fields
 pub mod Squares
 pub mod Traces
 pub mod Units
+pub mod Multiples
 pub mod Windows
 pub mod Reference
 pub mod Through

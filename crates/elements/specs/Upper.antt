@@ -3,7 +3,8 @@
 --
 --   upperRows f n sums                      row i: the coordinates of x ^ (n + i) in the reference's basis; "entries from n upward are zero"
 --   RowTables f n y r sums uppers ys rs     what a table row is made of: the reference, and the multiples of y and of r
---   Tables m squares sums uppers            what all elements share: the modulus, and the byte sums of squares and of coordinates
+--   SquaresOf m squares                     the modulus, and the byte sums of squares modulo its f
+--   Tables m squares sums uppers            what all elements share: these, the reference, and the coordinates of x ^ n to x ^ (2n - 1)
 --
 -- In order: what bytes pick; the coordinates of a product that is not reduced; the rows one by one. Assumes nothing.
 use mathlib.Core.Path.{_≡_, sym, ap, ap₂, _∙_}
@@ -30,7 +31,8 @@ use Rattle.elements.specs.Squares.{squareRows}
 use Rattle.elements.specs.Traces.{ModulusOf}
 use Rattle.elements.specs.Reference.{Reference, through}
 use Rattle.elements.specs.Through.{through-comb}
-use Rattle.elements.specs.Windows.{multiplesOf, Unreduced}
+use Rattle.elements.specs.Multiples.{multiplesOf}
+use Rattle.elements.specs.Windows.{Unreduced}
 use Rattle.elements.specs.declared.modulus.Modulus.{Modulus}
 
 unfoldable pub upperRows : (f n : ℕ) (sums : List ℕ) → List ℕ
@@ -42,9 +44,12 @@ pub record RowTables (f n y r : ℕ) (sums uppers ys rs : List ℕ) : Type 0 whe
   pub of-ys : ys ≡ multiplesOf f n y
   pub of-rs : rs ≡ multiplesOf (2 ^ n + 1) n r
 
-pub record Tables (m : Modulus) (squares sums uppers : List ℕ) : Type 0 where
+pub record SquaresOf (m : Modulus) (squares : List ℕ) : Type 0 where
   pub of-modulus : ModulusOf m
-  pub of-squares : squares ≡ byteSums bytes (squareRows (m .f) (m .n))
+  pub held : squares ≡ byteSums bytes (squareRows (m .f) (m .n))
+
+pub record Tables (m : Modulus) (squares sums uppers : List ℕ) : Type 0 where
+  pub of-squares : SquaresOf m squares
   pub reference : Reference (m .f) (m .n) sums
   pub of-uppers : uppers ≡ byteSums bytes (upperRows (m .f) (m .n) sums)
 

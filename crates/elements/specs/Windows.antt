@@ -2,16 +2,15 @@
 -- Their sum is not reduced, so no window waits for another; it stays below x ^ (2n), and is kept in two numbers.
 --
 --   roomy                        the largest degree whose elements leave room in a word for the move of the fourth window
---   multiplesOf f n a            entry d: a times d, for d below 16
 --   windowAt m w j               the entry of m that the window of w at j picks, moved to its place in a word of 64 bits
 --   fourWindows m w              the sum of the lowest four
 --   Unreduced f n a b low high   low + high x ^ n is the product of a and b modulo f, in two numbers below 2 ^ n
 --
--- In order: the entries; sums of four of them are all 16; one window; four windows; the product: its start, one turn, its end; the product
+-- In order: one window; four windows; the product: its start, one turn, its end; the product
 -- modulo t ^ n + 1, which is the number 2 ^ n + 1. Assumes nothing.
 use mathlib.Core.Path.{_≡_, sym, ap, ap₂, _∙_}
 use mathlib.Core.Logic.{⊎-elim}
-use mathlib.Core.List.{List, [], _∷_}
+use mathlib.Core.List.{List}
 use Prim.Native.Nat.{ℕ, _+_, _-_, _*_, _/_, _%_, _^_, _≤_, _<_}
 use native.Mathlib.Nat.{add-comm, zero-mul, mul-one, div-one, div-eq-of-lt, mod-lt, mod-one, mod-eq-of-lt, sub-add-cancel}
 use native.Mathlib.Omega.{arith}
@@ -26,9 +25,8 @@ use Rattle.gf2.specs.Product.{product-one-r, product-power, product-shift-r, pr
 use Rattle.gf2.specs.Remainder.{rem-zero, rem-⊕, rem-unique, rem-shift, mulMod-zero-r}
 use Rattle.field.specs.Ring.{mulMod-lt, mulMod-⊕-r, one-lt}
 use Rattle.rows.specs.Linear.{linear-shift}
-use Rattle.normal.specs.Normal.{listed}
-use Rattle.normal.specs.Coordinates.{listed-at}
 use Rattle.normal.specs.Reference.{turn-degree}
+use Rattle.elements.specs.Multiples.{multiplesOf, multiples-at}
 
 -- A turn moves its windows by 0, 4, 8 and 12 places, each within a word of 64 bits: an element has to leave 12 of them free.
 abbrev pub roomy : ℕ
@@ -37,9 +35,6 @@ roomy = 64 - 12
 -- the one place where the limit is compared with this room: a limit above it wants turns of fewer windows
 pub limit-roomy : (n : ℕ) → n ≤ limit → n ≤ roomy
 limit-roomy n h = omega arith
-
-unfoldable pub multiplesOf : (f n a : ℕ) → List ℕ
-multiplesOf f n a = listed 16 (λ d. mulMod f n a d)
 
 unfoldable pub windowAt : (m : List ℕ) (w j : ℕ) → ℕ
 windowAt m w j = getD m (w / 2 ^ j % 16) 0 * 2 ^ j % 2 ^ 64
@@ -51,21 +46,6 @@ pub record Unreduced (f n a b low high : ℕ) : Type 0 where
   pub low-lt : low < 2 ^ n
   pub high-lt : high < 2 ^ n
   pub whole : rem f n (high * 2 ^ n + low) ≡ mulMod f n a b
-
--- ---- the entries
-
-pub multiples-at : (f n a d : ℕ) → d < 16 → getD (multiplesOf f n a) d 0 ≡ mulMod f n a d
-unfolding multiplesOf
-multiples-at f n a = listed-at 16 (λ d. mulMod f n a d)
-
--- all are sums of those at 1, 2, 4 and 8
-pub sums-listed : (g : ℕ → ℕ) → ((x y : ℕ) → g (x ⊕ y) ≡ g x ⊕ g y) → g 0 ≡ 0 → (a b c d : ℕ) → a ≡ g 1 → b ≡ g 2 → c ≡ g 4 → d ≡ g 8
-    → (ab cd : ℕ) → ab ≡ bitXor b a → cd ≡ bitXor d c
-    → 0 ∷ a ∷ b ∷ ab ∷ c ∷ bitXor c a ∷ bitXor c b ∷ bitXor c ab ∷ d ∷ bitXor d a ∷ bitXor d b ∷ bitXor d ab ∷ cd ∷ bitXor cd a ∷ bitXor cd b ∷ bitXor cd ab ∷ []
-    ≡ listed 16 g
-unfolding listed _⊕_
-sums-listed g lin z a b c d ea eb ec ed ab cd eab ecd =
-    rw (ecd, eab, ea, eb, ec, ed, z, lin 12 3, lin 12 2, lin 12 1, lin 8 4, lin 8 3, lin 8 2, lin 8 1, lin 4 3, lin 4 2, lin 4 1, lin 2 1)
 
 -- one more window of w, of j bits at k
 next-window : (w j k : ℕ) → w % 2 ^ k ⊕ w / 2 ^ k % 2 ^ j * 2 ^ k ≡ w % 2 ^ (j + k)

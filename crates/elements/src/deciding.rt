@@ -1,7 +1,7 @@
 // Whether an element is normal, with the ones of its table: through the reference, where Euclid's algorithm gives a witness, and else by the
 // element's own basis.
 ghost use Prim.Native.Nat.{ℕ, _^_, _<_};
-ghost use Rattle.elements.specs.Fields.{FieldOf};
+ghost use Rattle.elements.specs.Fields.{ElementOf};
 ghost use Rattle.elements.specs.Upper.{Tables};
 ghost use Rattle.elements.specs.Decided.{Decides};
 use super::modulus::Modulus;
@@ -22,7 +22,7 @@ pub enum Decided {
 
 // By the basis of y: the count is exact.
 fn decide_by_basis(f: u64, n: u32, y: u64) -> Decided
-    requires { ⌜ FieldOf f n × (y < 2 ^ n) ⌝ }
+    requires { ⌜ ElementOf f n y ⌝ }
     ensures { λ r. ⌜ ((bound : ℕ) → Decides f n y bound r) ⌝ }
 {
     let spread = spread_table();

@@ -4,15 +4,19 @@ ghost use mathlib.Core.Path.{_≡_};
 ghost use mathlib.Core.Bool.{true, cond};
 ghost use Prim.Native.Nat.{ℕ, _+_, _*_, _^_, _≤_, _<_};
 ghost use lib.Dec.{eqb};
+ghost use lib.ListN.{length};
 ghost use Rattle.gf2.specs.Poly.{mulMod};
 ghost use Rattle.gf2.specs.Spread.{SpreadTable};
 ghost use Rattle.gf2.specs.Limit.{limit};
+ghost use Rattle.rows.specs.ByteSums.{bytes};
 ghost use Rattle.normal.specs.Normal.{normal, tableRows, complexity};
-ghost use Rattle.elements.specs.Fields.{FieldOf};
+ghost use Rattle.elements.specs.Fields.{ElementOf};
 ghost use Rattle.elements.specs.Reference.{Reference, through};
 ghost use Rattle.elements.specs.Upper.{RowTables, Tables};
 ghost use Rattle.elements.specs.Ones.{Within};
+ghost use Rattle.elements.specs.Units.{Witnesses};
 ghost use Rattle.elements.specs.Windows.{roomy};
+ghost use Rattle.elements.specs.declared.units.Witness.the-variants.{Inverse};
 use super::modulus::Modulus;
 use super::squares::square_by_bytes;
 use super::units::turn_modulus;
@@ -24,16 +28,15 @@ use rows::BYTE_SUMS;
 use rows::byte_sums;
 use rows::sum_by_bytes;
 
-// The sums that bytes pick of the inverse rows of b, a normal element: with them b is a reference.
-pub fn reference_sums(spread: &[u16; 256], f: u64, n: u32, b: u64) -> [u64; BYTE_SUMS]
-    requires { ⌜ SpreadTable (now spread) × FieldOf f n × (b < 2 ^ n) × (normal f n b ≡ true) ⌝ }
-    ensures { λ r. ⌜ Reference f n r ⌝ }
+// The sums that bytes pick of the inverse rows of b, a normal element: with them b is a reference. They are written into what is lent, whatever it
+// held before, since returning them costs a copy.
+pub fn reference_sums(spread: &[u16; 256], f: u64, n: u32, b: u64, sums: &mut [u64; BYTE_SUMS])
+    requires { ⌜ SpreadTable (now spread) × ElementOf f n b × (normal f n b ≡ true) × (length (now sums) ≡ 256 * bytes) ⌝ }
+    ensures { λ r. ⌜ Reference f n (now (sums .exit)) ⌝ }
 {
     let built = build_basis(spread, f, n, b);
     let inverse = built.basis.inverse;
-    let mut sums: [u64; BYTE_SUMS] = [0; BYTE_SUMS];
-    byte_sums(inverse, &mut sums);
-    sums
+    byte_sums(inverse, sums);
 }
 
 // What the ones of row i of a table count for, with those of row n - i, which are as many.
@@ -73,7 +76,7 @@ pub fn ones_within(
     r: u64,
     bound: u32,
 ) -> u32
-    requires { ⌜ Tables m (now squares) (now sums) (now uppers) × (y < 2 ^ m .n) × (mulMod (2 ^ m .n + 1) (m .n) r (through (now sums) y) ≡ 1) × (r < 2 ^ m .n) ⌝ }
+    requires { ⌜ Tables m (now squares) (now sums) (now uppers) × (y < 2 ^ m .n) × Witnesses (m .n) (through (now sums) y) (Inverse r) ⌝ }
     ensures { λ k. ⌜ Within bound k (complexity (tableRows (m .f) (m .n) y)) ⌝ }
 {
     let f = m.f;

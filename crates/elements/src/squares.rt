@@ -1,10 +1,9 @@
 // Squares modulo one f by bytes: the tables are made once, and each square is then one lookup for each byte, with no reduction.
 ghost use mathlib.Core.Path.{_≡_};
-ghost use Prim.Native.Nat.{_^_, _<_};
 ghost use Rattle.gf2.specs.Poly.{mulMod};
 ghost use Rattle.gf2.specs.Spread.{SpreadTable};
 ghost use Rattle.rows.specs.ByteSums.{bytes, byteSums};
-ghost use Rattle.elements.specs.Fields.{FieldOf};
+ghost use Rattle.elements.specs.Fields.{FieldOf, ElementOf};
 ghost use Rattle.elements.specs.Squares.{squareRows};
 use gf2::LIMIT;
 use gf2::square;
@@ -40,7 +39,7 @@ pub fn square_sums(spread: &[u16; 256], f: u64, n: u32) -> [u64; BYTE_SUMS]
 
 // The square of y modulo f, from the tables of f.
 pub fn square_by_bytes(squares: &[u64; BYTE_SUMS], f: u64, n: u32, y: u64) -> u64
-    requires { ⌜ (now squares ≡ byteSums bytes (squareRows f n)) × FieldOf f n × (y < 2 ^ n) ⌝ }
+    requires { ⌜ (now squares ≡ byteSums bytes (squareRows f n)) × ElementOf f n y ⌝ }
     ensures { λ r. ⌜ r ≡ mulMod f n y y ⌝ }
 {
     sum_by_bytes(squares, y)

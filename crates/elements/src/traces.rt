@@ -4,7 +4,7 @@ ghost use Prim.Native.Nat.{_^_, _<_};
 ghost use lib.Dec.{eqb};
 ghost use Rattle.field.specs.Field.{trace};
 ghost use Rattle.rows.specs.ByteSums.{bytes, byteSums};
-ghost use Rattle.elements.specs.Fields.{FieldOf};
+ghost use Rattle.elements.specs.Fields.{FieldOf, ElementOf};
 ghost use Rattle.elements.specs.Squares.{squareRows};
 ghost use Rattle.elements.specs.Traces.{traceMask, ModulusOf};
 use super::modulus::Modulus;
@@ -15,7 +15,7 @@ use rows::power;
 
 // The sum of the n conjugates of a, each squared by the tables.
 fn trace_of(squares: &[u64; BYTE_SUMS], f: u64, n: u32, a: u64) -> u64
-    requires { ⌜ (now squares ≡ byteSums bytes (squareRows f n)) × FieldOf f n × (a < 2 ^ n) ⌝ }
+    requires { ⌜ (now squares ≡ byteSums bytes (squareRows f n)) × ElementOf f n a ⌝ }
     ensures { λ r. ⌜ r ≡ trace f n a ⌝ }
 {
     let mut sum: u64 = 0;

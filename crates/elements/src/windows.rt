@@ -3,7 +3,8 @@
 ghost use mathlib.Core.Path.{_≡_};
 ghost use Prim.Native.Nat.{ℕ, _+_, _^_, _≤_, _<_};
 ghost use Rattle.gf2.specs.Poly.{mulMod, Degree};
-ghost use Rattle.elements.specs.Windows.{roomy, multiplesOf, fourWindows, Unreduced};
+ghost use Rattle.elements.specs.Multiples.{multiplesOf};
+ghost use Rattle.elements.specs.Windows.{roomy, fourWindows, Unreduced};
 use gf2::multiply;
 use rows::power;
 

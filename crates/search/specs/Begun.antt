@@ -1,18 +1,27 @@
--- The walk over a range in two parts: up to the first normal leader, and on from it, joined to what is held from before.
+-- The walk over a range in two parts: up to the first normal leader, and on from it, joined to what is held from before. Both parts go from one
+-- leader of trace 1 to the next.
 --
---   RangeOf f n first last       f is accepted, of degree n, and first to last is a range of its elements
---   FirstFrom f n first last r   r is the first normal leader from first to last, or the number after last where there is none
+--   RangeOf f n first last         f is accepted, of degree n, and first to last is a range of its elements
+--   PartOf n next last             next to last is what is left of a range of elements; nothing, where next is the number after last
+--   traceLeader f n a              a is a leader of trace 1
+--   FirstFrom f n t first last r   r is the first from first to last that passes t, or the number after last where there is none; no normal leader
+--                                  stands before it
 --
--- In order: the first part, turn by turn, and what it leaves of the range; the second part, turn by turn, with the bound that its turns need.
+-- In order: leaders of trace 1; elements that add nothing; up to the first; on from there, turn by turn, with the bound that the turns need.
 -- Assumes nothing.
 use mathlib.Core.Path.{_≡_, sym, ap, ap₂, _∙_}
-use mathlib.Core.Bool.{true, false}
+use mathlib.Core.Logic.{⊎-elim}
+use mathlib.Core.Bool.{Bool, true, false, _&&_}
 use Prim.Native.Nat.{ℕ, suc, _+_, _-_, _^_, _≤_, _<_}
 use native.Mathlib.Omega.{arith}
+use lib.Dec.{eqb}
+use Rattle.gf2.specs.Truth.{bool-cases, and-parts}
+use Rattle.field.specs.Field.{trace}
 use Rattle.elements.specs.Fields.{FieldOf}
-use Rattle.search.specs.Search.{normalLeader, joined, candidateOf, walked, ranged, countOf}
+use Rattle.elements.specs.Traces.{no-trace-not-normal}
+use Rattle.search.specs.Search.{leader, normalLeader, joined, candidateOf, walked, ranged, countOf}
 use Rattle.search.specs.Joined.{joined-nothing, nothing-joined, joined-assoc, joined-count-le}
-use Rattle.search.specs.Walks.{candidate-none, candidate-count-le, walked-none, walked-next, walked-cut}
+use Rattle.search.specs.Walks.{candidate-none, candidate-count-le, no-leader, not-normal, walked-none, walked-next, walked-cut}
 use Rattle.search.specs.declared.answer.Search.{Search}
 use Rattle.search.specs.declared.answer.Search.the-variants.{Nothing}
 
@@ -21,13 +30,46 @@ pub record RangeOf (f n first last : ℕ) : Type 0 where
   pub ordered : first ≤ last
   pub elements : last < 2 ^ n
 
-pub record FirstFrom (f n first last r : ℕ) : Type 0 where
+pub record PartOf (n next last : ℕ) : Type 0 where
+  pub within : next ≤ last + 1
+  pub elements : last < 2 ^ n
+
+unfoldable pub traceLeader : (f n a : ℕ) → Bool
+traceLeader f n a = eqb (trace f n a) 1 && leader f n a
+
+pub record FirstFrom (f n : ℕ) (t : ℕ → Bool) (first last r : ℕ) : Type 0 where
   pub since : first ≤ r
   pub upto : r ≤ last + 1
   pub none : walked f n first (r - first) ≡ Nothing
-  pub leads : r ≤ last → normalLeader f n r ≡ true
+  pub passes : r ≤ last → t r ≡ true
 
--- ---- up to the first normal leader
+-- ---- leaders of trace 1
+
+module _ (f n a : ℕ) where
+  pub trace-leader-with : eqb (trace f n a) 1 ≡ true → leader f n a ≡ traceLeader f n a
+  unfolding traceLeader
+  trace-leader-with e = rw e
+
+  pub trace-leader-without : eqb (trace f n a) 1 ≡ false → false ≡ traceLeader f n a
+  unfolding traceLeader
+  trace-leader-without e = rw e
+
+  pub trace-leader-leads : traceLeader f n a ≡ true → leader f n a ≡ true
+  unfolding traceLeader
+  trace-leader-leads e = and-parts (eqb (trace f n a) 1) (leader f n a) e .1
+
+  -- no other element is a normal leader
+  pub not-trace-leader : FieldOf f n → a < 2 ^ n → traceLeader f n a ≡ false → normalLeader f n a ≡ false
+  not-trace-leader s ha e =
+      ⊎-elim
+      (λ (p : eqb (trace f n a) 1 ≡ true). no-leader f n a (trace-leader-with p ∙ e))
+      (λ (p : eqb (trace f n a) 1 ≡ false). ⊎-elim
+      (λ (l : leader f n a ≡ true). not-normal f n a l (no-trace-not-normal f n s a ha p))
+      (λ (l : leader f n a ≡ false). no-leader f n a l)
+      (bool-cases (leader f n a)))
+      (bool-cases (eqb (trace f n a) 1))
+
+-- ---- elements that add nothing
 
 pub walked-start : (f n first : ℕ) → walked f n first (first - first) ≡ Nothing
 walked-start f n first = let z : first - first ≡ 0 = omega arith in rw z (walked-none f n first)
@@ -44,7 +86,25 @@ module _ (f n first a : ℕ) (h : first ≤ a) where
   unfolding joined
   first-turn e p = walked-to ∙ ap₂ joined e (candidate-none f n a p)
 
-module _ (f n first last r : ℕ) (begun : FirstFrom f n first last r) where
+  -- from a on to the next that passes
+  walked-skip : (r : ℕ) → a ≤ r → walked f n a (r - a) ≡ Nothing → walked f n first (r - first) ≡ walked f n first (a - first)
+  walked-skip r l e =
+      let s : r - first ≡ (a - first) + (r - a) = omega arith in
+      let t : first + (a - first) ≡ a = omega arith in
+      ap (walked f n first) s ∙ walked-cut f n first (a - first) (r - a)
+      ∙ ap (joined (walked f n first (a - first))) (ap (λ (x : ℕ). walked f n x (r - a)) t ∙ e)
+      ∙ joined-nothing (walked f n first (a - first))
+
+-- ---- up to the first
+
+module _ (f n first last a r : ℕ) (h : first ≤ a) (t : ℕ → Bool) (next : FirstFrom f n t a last r) where
+  pub first-skip : walked f n first (a - first) ≡ Nothing → walked f n first (r - first) ≡ Nothing
+  first-skip e = walked-skip f n first a h r (next .since) (next .none) ∙ e
+
+  pub next-skip : (held x : Search) → x ≡ joined held (walked f n first (a - first)) → x ≡ joined held (walked f n first (r - first))
+  next-skip held x e = e ∙ ap (joined held) (sym (walked-skip f n first a h r (next .since) (next .none)))
+
+module _ (f n first last r : ℕ) (t : ℕ → Bool) (begun : FirstFrom f n t first last r) where
   -- what is before the first adds nothing
   begun-rest : ranged f n first last ≡ walked f n r (last + 1 - r)
   unfolding ranged

@@ -1,6 +1,7 @@
 -- One leader joined to what is held, as far as it is decided: its count of ones has to be exact only up to a bound that what is held gives.
 --
---   boundOf w   how many ones a table may have and still be the best beside w; where nothing is held, the largest number of 32 bits
+--   boundOf w                how many ones a table may have and still be the best beside w; where nothing is held, the largest number of 32 bits
+--   Joinable f n w a x       a is a leader of which x is decided, as far as joining it to w needs, and one more can be counted
 --
 -- In order: a record with an inexact count is kept or not as the exact one would be; a found record joined, case by case; the leader
 -- that is joined.
@@ -13,6 +14,7 @@ use native.Mathlib.Omega.{arith}
 use Rattle.gf2.specs.Numbers.{order}
 use Rattle.gf2.specs.Truth.{not-true-false}
 use Rattle.normal.specs.Normal.{normal}
+use Rattle.elements.specs.Fields.{ElementOf}
 use Rattle.elements.specs.Ones.{Within}
 use Rattle.elements.specs.Decided.{Decides}
 use Rattle.elements.specs.declared.deciding.Decided.{Decided}
@@ -28,6 +30,12 @@ abbrev pub boundOf : Search → ℕ
 boundOf (Refused k) = 0
 boundOf Nothing = 4294967295
 boundOf (Found x) = x .complexity
+
+pub record Joinable (f n : ℕ) (w : Search) (a : ℕ) (x : Decided) : Type 0 where
+  pub of-element : ElementOf f n a
+  pub leads : leader f n a ≡ true
+  pub decides : Decides f n a (boundOf w) x
+  pub counts : countOf w + 1 < 2 ^ 64
 
 -- ---- an inexact count
 
@@ -81,16 +89,16 @@ counts-fit f n a c w x e y ey h = rw ey (rw e at h)
 
 -- ---- the leader a
 
-module _ (f n : ℕ) (w : Search) (a : ℕ) (l : leader f n a ≡ true) (x : Decided) (s : Decides f n a (boundOf w) x) where
+module _ (f n : ℕ) (w : Search) (a : ℕ) (x : Decided) (s : Joinable f n w a x) where
   pub join-not-normal : x ≡ decided.NotNormal → w ≡ joined w (candidateOf f n a)
   join-not-normal e =
-      let t : normal f n a ≡ false = rw e at s in
-      sym (rw (candidate-none f n a (not-normal f n a l t)) (joined-nothing w))
+      let t : normal f n a ≡ false = rw e at (s .decides) in
+      sym (rw (candidate-none f n a (not-normal f n a (s .leads) t)) (joined-nothing w))
 
   pub join-normal : (c : ℕ) → x ≡ decided.Normal c → c ≤ 4294967295 → (r : Search) → r ≡ joined w (Found (foundBy f n a c)) → r ≡ joined w (candidateOf f n a)
   unfolding complexityAt
   join-normal c e h r er =
-      let t : Decides f n a (boundOf w) (decided.Normal c) = rw e at s in
+      let t : Decides f n a (boundOf w) (decided.Normal c) = rw e at (s .decides) in
       er
       ∙ joined-within f n a w c (complexityAt f n a) h (t .1)
-      ∙ ap (joined w) (sym (candidate-is f n a (normal-leader f n a l (t .0))))
+      ∙ ap (joined w) (sym (candidate-is f n a (normal-leader f n a (s .leads) (t .0))))

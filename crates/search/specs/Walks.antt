@@ -4,15 +4,11 @@
 use mathlib.Core.Path.{_≡_, refl, sym, ap, ap₂, _∙_}
 use mathlib.Core.Logic.{⊎-elim}
 use mathlib.Core.Bool.{true, false, cond}
-use Prim.Native.Nat.{ℕ, zero, suc, _+_, _-_, _^_, _≤_, _<_}
+use Prim.Native.Nat.{ℕ, zero, suc, _+_, _-_, _≤_, _<_}
 use native.Mathlib.Nat.{le-refl, add-assoc, add-zero, add-suc}
 use native.Mathlib.Omega.{arith}
-use lib.Dec.{eqb}
 use Rattle.gf2.specs.Truth.{bool-cases, and-parts}
-use Rattle.field.specs.Field.{trace}
 use Rattle.normal.specs.Normal.{normal}
-use Rattle.elements.specs.Fields.{FieldOf}
-use Rattle.elements.specs.Traces.{no-trace-not-normal}
 use Rattle.search.specs.Search.{leader, normalLeader, foundBy, alone, joined, candidateOf, walked, ranged, Answered, nothing, found, countOf, counted}
 use Rattle.search.specs.Joined.{joined-nothing, joined-assoc, joined-answered, joined-count}
 use Rattle.search.specs.declared.answer.Search.the-variants.{Nothing, Found}
@@ -39,14 +35,6 @@ module _ (f n a : ℕ) where
   pub not-normal : leader f n a ≡ true → normal f n a ≡ false → normalLeader f n a ≡ false
   unfolding normalLeader
   not-normal p q = rw (p, q)
-
-  -- an element without trace 1
-  pub no-trace : FieldOf f n → a < 2 ^ n → eqb (trace f n a) 1 ≡ false → normalLeader f n a ≡ false
-  no-trace s ha none =
-      ⊎-elim
-      (λ (l : leader f n a ≡ true). not-normal l (no-trace-not-normal f n s a ha none))
-      (λ (l : leader f n a ≡ false). no-leader l)
-      (bool-cases (leader f n a))
 
   pub leader-is-normal : normalLeader f n a ≡ true → normal f n a ≡ true
   unfolding normalLeader

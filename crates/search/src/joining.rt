@@ -1,11 +1,9 @@
 // Found records: the one place where they are made, and how one more is joined to what is held.
 ghost use mathlib.Core.Path.{_≡_};
-ghost use mathlib.Core.Bool.{true};
 ghost use Prim.Native.Nat.{_+_, _^_, _<_};
-ghost use Rattle.elements.specs.Fields.{FieldOf};
-ghost use Rattle.elements.specs.Decided.{Decides};
-ghost use Rattle.search.specs.Search.{leader, precedes, withCount, better, joined, foundBy, candidateOf, countOf};
-ghost use Rattle.search.specs.Joining.{boundOf};
+ghost use Rattle.elements.specs.Fields.{ElementOf};
+ghost use Rattle.search.specs.Search.{precedes, withCount, better, joined, foundBy, candidateOf, countOf};
+ghost use Rattle.search.specs.Joining.{boundOf, Joinable};
 ghost use Rattle.search.specs.declared.answer.Search.the-variants.{Found};
 use super::answer::Best;
 use super::answer::Search;
@@ -14,7 +12,7 @@ use normal::grade_of;
 
 // The found record of the normal leader a, whose table has so many ones. No other place makes one.
 fn found_by(f: u64, n: u32, a: u64, ones: u32) -> Best
-    requires { ⌜ FieldOf f n ⌝ }
+    requires { ⌜ ElementOf f n a ⌝ }
     ensures { λ r. ⌜ r ≡ foundBy f n a ones ⌝ }
 {
     let grade = grade_of(n, ones);
@@ -72,7 +70,7 @@ pub fn bound_of(held: Search) -> u32
 
 // What is held, joined with the normal leader a, whose table has so many ones.
 fn join_leader(f: u64, n: u32, held: Search, a: u64, ones: u32) -> Search
-    requires { ⌜ FieldOf f n × (countOf held + 1 < 2 ^ 64) ⌝ }
+    requires { ⌜ ElementOf f n a × (countOf held + 1 < 2 ^ 64) ⌝ }
     ensures { λ r. ⌜ r ≡ joined held (Found (foundBy f n a ones)) ⌝ }
 {
     match held {
@@ -84,7 +82,7 @@ fn join_leader(f: u64, n: u32, held: Search, a: u64, ones: u32) -> Search
 
 // What is held, joined with the leader a, of which it is decided whether it is normal.
 pub fn join_decided(f: u64, n: u32, held: Search, a: u64, decided: Decided) -> Search
-    requires { ⌜ FieldOf f n × (countOf held + 1 < 2 ^ 64) × (leader f n a ≡ true) × Decides f n a (boundOf held) decided ⌝ }
+    requires { ⌜ Joinable f n held a decided ⌝ }
     ensures { λ r. ⌜ r ≡ joined held (candidateOf f n a) ⌝ }
 {
     match decided {

@@ -25,7 +25,7 @@ enum-told c = search needs
 decide-by-basis-requires : tie.Need-decide-by-basis-requires
 decide-by-basis-requires c κs =
     let s = c .before .before .before .before in
-    (s .pre .0 .of-modulus .of-field, s .pre .1)
+    record { of-field = s .pre .0 .reference .of-field; below = s .pre .1 }
 
 enum-told-2 : tie.Need-enum-told-2
 enum-told-2 c = search needs
@@ -48,7 +48,7 @@ ones-within-requires : tie.Need-ones-within-requires
 ones-within-requires c κs =
     let k = c .before in
     let s = k .before .before .before .before in
-    (s .pre .0, s .pre .1, inverse k .1, inverse k .0)
+    (s .pre .0, s .pre .1, inverse k)
 
 returns : tie.Need-returns
 returns c = c .decide-by-basis .ensures (c .before .before .before .before .before .args .bound)

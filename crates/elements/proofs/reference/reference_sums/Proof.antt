@@ -18,12 +18,12 @@ returns c =
     let k = c .before .before .before in
     let s = k .before in
     record {
-      of-field = s .pre .1;
+      of-field = s .pre .1 .of-field;
       element = s .args .b;
-      below = s .pre .2;
-      is-normal = s .pre .3;
+      below = s .pre .1 .below;
+      is-normal = s .pre .2;
       held = c .byte-sums .ensures
-          ∙ ap (byteSums bytes) (built-inverse (s .args .f) (s .args .n) (s .args .b) (k .build-basis .result) (k .build-basis .ensures) (s .pre .3));
+          ∙ ap (byteSums bytes) (built-inverse (s .args .f) (s .args .n) (s .args .b) (k .build-basis .result) (k .build-basis .ensures) (s .pre .2));
     }
 
 pub reference-sums-spec : {M : Type 1} → statement M

@@ -16,7 +16,7 @@ returns : tie.Need-returns
 returns c =
     let s = c .before in
     c .sum-by-bytes .ensures ∙ ap (λ (sums : List ℕ). pickedBytes bytes sums (s .args .y)) (s .pre .0)
-    ∙ squares-picked (s .args .f) (s .args .n) (s .pre .1 .is-degree) (s .args .y) (s .pre .2) (s .pre .1 .most)
+    ∙ squares-picked (s .args .f) (s .args .n) (s .pre .1 .of-field .is-degree) (s .args .y) (s .pre .1 .below) (s .pre .1 .of-field .most)
 
 pub square-by-bytes-spec : {M : Type 1} → statement M
 square-by-bytes-spec = tie.close (tie.spec sum-by-bytes-requires returns)

@@ -41,7 +41,7 @@ trace-of-requires : tie.Need-trace-of-requires Inv-loop μ-loop
 trace-of-requires c κs =
     let i = c .before in
     let s = i .before .before in
-    (s .pre .0, s .pre .1, rw (c .power .ensures) (pow-lt (i .loop-test .taken)))
+    (s .pre .0, record { of-field = s .pre .1; below = rw (c .power .ensures) (pow-lt (i .loop-test .taken)) })
 
 picked-requires : tie.Need-picked-requires Inv-loop μ-loop
 picked-requires c κs = mod-two-lt (c .trace-of .result)

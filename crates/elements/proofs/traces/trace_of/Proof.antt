@@ -36,8 +36,13 @@ loop-holds c =
 square-by-bytes-requires : tie.Need-square-by-bytes-requires Inv-loop μ-loop
 square-by-bytes-requires c κs =
     let l = c .before in
-    let s = l .before in
-    (s .pre .0, s .pre .1, rw (l .loop .inv .2) (squared-lt (s .args .f) (s .args .n) (s .pre .1 .is-degree) (l .loop .i) (s .args .a) (s .pre .2)))
+    let s = l .before in (
+      s .pre .0,
+      record {
+        of-field = s .pre .1 .of-field;
+        below = rw (l .loop .inv .2) (squared-lt (s .args .f) (s .args .n) (s .pre .1 .of-field .is-degree) (l .loop .i) (s .args .a) (s .pre .1 .below));
+      },
+    )
 
 add-i : tie.Need-add-i Inv-loop μ-loop
 add-i c = omega arith
@@ -51,7 +56,7 @@ loop-again c =
     let s = l .before in (
       omega arith,
       turn (s .args .f) (s .args .n) (l .loop .i) (s .args .a) (l .loop .sum) (l .loop .y) (l .loop .inv .1) (l .loop .inv .2),
-      squared-turn (s .args .f) (s .args .n) (s .pre .1 .is-degree) (l .loop .i) (s .args .a) (l .loop .y) (c .square-by-bytes .result) (l .loop .inv .2) (c .square-by-bytes .ensures),
+      squared-turn (s .args .f) (s .args .n) (s .pre .1 .of-field .is-degree) (l .loop .i) (s .args .a) (l .loop .y) (c .square-by-bytes .result) (l .loop .inv .2) (c .square-by-bytes .ensures),
     )
 
 returns : tie.Need-returns Inv-loop μ-loop

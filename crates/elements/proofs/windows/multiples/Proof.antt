@@ -6,7 +6,7 @@ use borrow.Author.Needs.{needs}
 use Rattle.gf2.specs.Poly.{mulMod, Degree}
 use Rattle.gf2.specs.Remainder.{mulMod-zero-r}
 use Rattle.field.specs.Ring.{mulMod-comm, mulMod-one-l, mulMod-⊕-r}
-use Rattle.elements.specs.Windows.{multiplesOf, sums-listed}
+use Rattle.elements.specs.Multiples.{multiplesOf, sums-listed}
 use Rattle.elements.proofs.windows.multiples.Statement.{statement}
 use Rattle.elements.proofs.windows.multiples.Tie as tie
 

@@ -6,7 +6,8 @@ use native.Mathlib.Omega.{arith}
 use lib.Pow.{pow-pos}
 use borrow.Author.Needs.{needs}
 use Rattle.gf2.specs.Poly.{Degree}
-use Rattle.elements.specs.Windows.{multiplesOf, Unreduced, wide-first, wide-step, wide-last}
+use Rattle.elements.specs.Multiples.{multiplesOf}
+use Rattle.elements.specs.Windows.{Unreduced, wide-first, wide-step, wide-last}
 use Rattle.elements.proofs.windows.wide_product.Statement.{statement}
 use Rattle.elements.proofs.windows.wide_product.Tie as tie
 

@@ -20,14 +20,14 @@ join-leader-requires c κs = search needs
 returns : tie.Need-returns
 returns c =
     let s = c .before .before in
-    join-not-normal (s .args .f) (s .args .n) (s .args .held) (s .args .a) (s .pre .2) (s .args .decided) (s .pre .3) (c .enum-told .given .1)
+    join-not-normal (s .args .f) (s .args .n) (s .args .held) (s .args .a) (s .args .decided) (s .pre) (c .enum-told .given .1)
 
 returns-2 : tie.Need-returns-2
 returns-2 c =
     let k = c .before .before in
     let s = k .before .before in
     let h : Fits w32 (k .decided .given .0 .0) = search needs in
-    join-normal (s .args .f) (s .args .n) (s .args .held) (s .args .a) (s .pre .2) (s .args .decided) (s .pre .3)
+    join-normal (s .args .f) (s .args .n) (s .args .held) (s .args .a) (s .args .decided) (s .pre)
     (k .decided .given .0 .0) (k .decided .given .1) (omega (arith, h .fits)) (c .join-leader .result) (c .join-leader .ensures)
 
 pub join-decided-spec : {M : Type 1} → statement M

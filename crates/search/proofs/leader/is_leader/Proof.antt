@@ -28,22 +28,24 @@ passed f n i a z e h all j l =
 
 loop-holds : tie.Need-loop-holds Inv-loop μ-loop
 loop-holds c =
-    (omega (arith, c .pre .1 .two), squared-start (c .args .f) (c .args .n) (c .args .a), start (c .args .f) (c .args .n) (c .args .a))
+    (omega (arith, c .pre .1 .of-field .two), squared-start (c .args .f) (c .args .n) (c .args .a), start (c .args .f) (c .args .n) (c .args .a))
 
 add-if1 : tie.Need-add-if1 Inv-loop μ-loop
-add-if1 c = omega (arith, c .before .pre .1 .most)
+add-if1 c = omega (arith, c .before .pre .1 .of-field .most)
 
 square-by-bytes-requires : tie.Need-square-by-bytes-requires Inv-loop μ-loop
 square-by-bytes-requires c κs =
     let l = c .before in
     let s = l .before in (
       s .pre .0,
-      s .pre .1,
-      rw (l .loop .inv .1) (squared-lt (s .args .f) (s .args .n) (s .pre .1 .is-degree) (l .loop .i) (s .args .a) (s .pre .2)),
+      record {
+        of-field = s .pre .1 .of-field;
+        below = rw (l .loop .inv .1) (squared-lt (s .args .f) (s .args .n) (s .pre .1 .of-field .is-degree) (l .loop .i) (s .args .a) (s .pre .1 .below));
+      },
     )
 
 add-i : tie.Need-add-i Inv-loop μ-loop
-add-i c = omega (arith, c .before .before .before .pre .1 .most)
+add-i c = omega (arith, c .before .before .before .pre .1 .of-field .most)
 
 loop-less : tie.Need-loop-less Inv-loop μ-loop
 loop-less c = omega arith
@@ -53,7 +55,7 @@ loop-again c =
     let q = c .before in
     let l = q .before .before in
     let s = l .before in
-    let e = squared-turn (s .args .f) (s .args .n) (s .pre .1 .is-degree) (l .loop .i) (s .args .a) (l .loop .y) (q .square-by-bytes .result) (l .loop .inv .1) (q .square-by-bytes .ensures) in
+    let e = squared-turn (s .args .f) (s .args .n) (s .pre .1 .of-field .is-degree) (l .loop .i) (s .args .a) (l .loop .y) (q .square-by-bytes .result) (l .loop .inv .1) (q .square-by-bytes .ensures) in
     (omega arith, e, passed (s .args .f) (s .args .n) (l .loop .i) (s .args .a) (q .square-by-bytes .result) e (c .if2 .left) (l .loop .inv .2))
 
 returns : tie.Need-returns Inv-loop μ-loop
@@ -67,7 +69,7 @@ returns-2 c =
     let q = c .before in
     let l = q .before .before in
     let s = l .before in
-    let e = squared-turn (s .args .f) (s .args .n) (s .pre .1 .is-degree) (l .loop .i) (s .args .a) (l .loop .y) (q .square-by-bytes .result) (l .loop .inv .1) (q .square-by-bytes .ensures) in
+    let e = squared-turn (s .args .f) (s .args .n) (s .pre .1 .of-field .is-degree) (l .loop .i) (s .args .a) (l .loop .y) (q .square-by-bytes .result) (l .loop .inv .1) (q .square-by-bytes .ensures) in
     sym (not-leader (s .args .f) (s .args .n) (s .args .a) (l .loop .i + 1) (omega arith) (rw e at (c .if2 .taken)))
 
 pub is-leader-spec : {M : Type 1} → statement M

@@ -1,70 +1,98 @@
--- `search::walking::first_normal` meets its contract. The invariant: no normal leader lies from first to below a.
--- The measure is what is left up to last. Assumes nothing.
+-- `search::walking::first_normal` meets its contract. The invariant: a is a leader, or the number after last, and no normal leader lies from first
+-- to below it. The measure is what is left up to last. Assumes nothing.
 use mathlib.Core.Path.{_≡_, sym, _∙_}
-use Prim.Native.Nat.{_+_, _-_, _≤_}
+use mathlib.Core.Bool.{false}
+use Prim.Native.Nat.{_+_, _-_, _^_, _<_}
 use native.Mathlib.Omega.{arith}
 use lib.Pow.{pow-mono}
-use Rattle.search.specs.Search.{walked}
-use Rattle.search.specs.Begun.{walked-start, first-turn}
-use Rattle.search.specs.declared.answer.Search.the-variants.{Nothing}
+use Rattle.normal.specs.Normal.{normal}
+use Rattle.elements.specs.Built.{built-normal}
+use Rattle.search.specs.Search.{leader}
+use Rattle.search.specs.Walks.{normal-leader, not-normal}
+use Rattle.search.specs.Begun.{FirstFrom, first-turn, first-skip}
 use Rattle.search.proofs.walking.first_normal.Statement.{statement}
 use Rattle.search.proofs.walking.first_normal.Tie as tie
 
 abbrev Inv-loop : tie.InvT-loop
-Inv-loop spread squares m first last a₀ a = (first ≤ a) × (a ≤ last + 1) × (walked (m .f) (m .n) first (a - first) ≡ Nothing)
+Inv-loop spread squares m first last a₀ a = FirstFrom (m .f) (m .n) (leader (m .f) (m .n)) first last a
 
 abbrev μ-loop : tie.MeasureT-loop
 μ-loop spread squares m first last a₀ a = last + 1 - a
 
-loop-holds : tie.Need-loop-holds Inv-loop μ-loop
-loop-holds c = (omega arith, omega (arith, c .pre .3), walked-start (c .args .m .f) (c .args .m .n) (c .args .first))
+next-leader-requires : tie.Need-next-leader-requires Inv-loop μ-loop
+next-leader-requires c κs = (c .pre .1, c .pre .2)
 
-is-normal-leader-requires : tie.Need-is-normal-leader-requires Inv-loop μ-loop
-is-normal-leader-requires c κs =
-    let s = c .before .before in
-    (s .pre .0, s .pre .1, s .pre .2, omega (arith, s .pre .4, c .loop-test .taken))
+loop-holds : tie.Need-loop-holds Inv-loop μ-loop
+loop-holds c = c .next-leader .ensures
+
+-- a is an element
+element : (i : tie.In-loop Inv-loop μ-loop) → i .before .loop .a < 2 ^ i .before .before .before .args .m .n
+element i = omega (arith, i .before .before .before .pre .2 .elements, i .loop-test .taken)
+
+build-basis-requires : tie.Need-build-basis-requires Inv-loop μ-loop
+build-basis-requires c κs =
+    let s = c .before .before .before in
+    let of-field = s .pre .1 .of-modulus .of-field in
+    (s .pre .0, of-field .most, of-field .is-degree, element c)
 
 returns : tie.Need-returns Inv-loop μ-loop
 returns c =
-    let t = c .before in
-    let i = t .before in
+    let b = c .before in
+    let i = b .before in
     let l = i .before in
+    let m = l .before .before .args .m in
     record {
-      since = l .loop .inv .0;
-      upto = l .loop .inv .1;
-      none = l .loop .inv .2;
-      leads = λ h. sym (t .is-normal-leader .ensures) ∙ c .if1 .taken;
+      since = l .loop .inv .since;
+      upto = l .loop .inv .upto;
+      none = l .loop .inv .none;
+      passes = λ h. normal-leader (m .f) (m .n) (l .loop .a) (l .loop .inv .passes h)
+          (sym (built-normal (m .f) (m .n) (l .loop .a) (b .build-basis .result) (b .build-basis .ensures)) ∙ c .if1 .taken);
     }
 
-add-a : tie.Need-add-a Inv-loop μ-loop
-add-a c =
+add-next-leader : tie.Need-add-next-leader Inv-loop μ-loop
+add-next-leader c =
     let i = c .before .before in
-    let s = i .before .before in
-    omega (arith, s .pre .4, pow-mono (s .pre .2 .of-field .most), i .loop-test .taken)
+    let s = i .before .before .before in
+    omega (arith, element i, pow-mono (s .pre .1 .of-modulus .of-field .most))
+
+next-leader-requires-2 : tie.Need-next-leader-requires-2 Inv-loop μ-loop
+next-leader-requires-2 c κs =
+    let i = c .before .before in
+    let s = i .before .before .before in
+    (s .pre .1, record { within = omega (arith, i .loop-test .taken); elements = s .pre .2 .elements })
 
 loop-less : tie.Need-loop-less Inv-loop μ-loop
-loop-less c = omega arith
+loop-less c = omega (arith, c .next-leader2 .ensures .since, c .before .before .before .loop-test .taken)
 
 loop-again : tie.Need-loop-again Inv-loop μ-loop
 loop-again c =
-    let t = c .before in
-    let i = t .before in
+    let e = c .before in
+    let b = e .before in
+    let i = b .before in
     let l = i .before in
-    let s = l .before in (
-      omega (arith, l .loop .inv .0),
-      omega (arith, i .loop-test .taken),
-      first-turn (s .args .m .f) (s .args .m .n) (s .args .first) (l .loop .a) (l .loop .inv .0) (l .loop .inv .2) (sym (t .is-normal-leader .ensures) ∙ c .if1 .left),
-    )
+    let s = l .before .before in
+    let f = s .args .m .f in
+    let n = s .args .m .n in
+    let a = l .loop .a in
+    let next = c .next-leader2 .ensures in
+    let fails : normal f n a ≡ false = sym (built-normal f n a (b .build-basis .result) (b .build-basis .ensures)) ∙ e .if1 .left in
+    record {
+      since = omega (arith, l .loop .inv .since, next .since);
+      upto = next .upto;
+      none = first-skip f n (s .args .first) (s .args .last) (a + 1) (c .next-leader2 .result) (omega (arith, l .loop .inv .since)) (leader f n) next
+          (first-turn f n (s .args .first) a (l .loop .inv .since) (l .loop .inv .none) (not-normal f n a (l .loop .inv .passes (i .loop-test .taken)) fails));
+      passes = next .passes;
+    }
 
 returns-2 : tie.Need-returns-2 Inv-loop μ-loop
 returns-2 c =
     let l = c .before in
     let left = c .loop-test .left in
     record {
-      since = l .loop .inv .0;
-      upto = l .loop .inv .1;
-      none = l .loop .inv .2;
-      leads = λ h. absurd (omega (arith, left, h));
+      since = l .loop .inv .since;
+      upto = l .loop .inv .upto;
+      none = l .loop .inv .none;
+      passes = λ h. absurd (omega (arith, left, h));
     }
 
 pub first-normal-spec : {M : Type 1} → statement M
@@ -73,10 +101,12 @@ first-normal-spec =
     (tie.spec
     Inv-loop
     μ-loop
+    next-leader-requires
     loop-holds
-    is-normal-leader-requires
+    build-basis-requires
     returns
-    add-a
+    add-next-leader
+    next-leader-requires-2
     loop-less
     loop-again
     returns-2)
