@@ -6,12 +6,14 @@
 --   searchReport f first last  the numbers that the order's verdict gives
 --
 -- Assumes nothing.
-use mathlib.Core.List.{List, [], _∷_}
+use mathlib.Core.List.{List, [], _∷_, _++_}
 use Prim.Native.Nat.{ℕ}
 use lib.Dec.{ltb}
 use Rattle.gf2.specs.Poly.{degree}
 use Rattle.refusals.specs.Verdicts.{Rule, Verdict, clear, refuse, firstOf}
-use Rattle.field.specs.Refusals.{degreeRule, elementRule, fieldOrder}
+use Rattle.refusals.specs.Answers.{answerOf}
+use Rattle.refusals.specs.declared.answer.Refusal.{Refusal}
+use Rattle.field.specs.Refusals.{operandOrder, fieldOrder}
 use Rattle.normal.specs.Grades.{gradeNumber}
 use Rattle.search.specs.Search.{ranged}
 use Rattle.search.specs.declared.answer.Search.{Search}
@@ -23,11 +25,11 @@ rangeRule first last = record { number = 12; place = 0; applies = ltb last first
 
 -- "Search: 1, 4, 12, 2, 3."
 abbrev pub searchOrder : (f first last : ℕ) → List Rule
-searchOrder f first last = degreeRule f ∷ elementRule (degree f) (first ∷ last ∷ []) ∷ rangeRule first last ∷ fieldOrder f
+searchOrder f first last = operandOrder f (first ∷ last ∷ []) ++ (rangeRule first last ∷ fieldOrder f)
 
-unfoldable pub searchOf : Verdict → Search → Search
-searchOf clear x = x
-searchOf (refuse k p) x = Refused k
+-- "refused with a number", or what the walk gives
+abbrev pub searchOf : Verdict → Search → Search
+searchOf v x = answerOf (λ (r : Refusal). Refused (r .number)) x v
 
 unfoldable pub searchAnswer : (f first last : ℕ) → Search
 searchAnswer f first last = searchOf (firstOf (searchOrder f first last)) (ranged f (degree f) first last)

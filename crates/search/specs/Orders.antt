@@ -1,113 +1,81 @@
--- Laws of the search's order: how a path through its conditions gives the first that applies, and how that gives the answer with its
--- numbers; what it leaves where none of its conditions applies. What the call answers for an accepted f and over adjoining ranges:
--- `Searched`.
+-- Laws of the search's order: what a path through its conditions finds, what it leaves where none of them applies, and how that gives the
+-- answer with its numbers. What the call answers for an accepted f and over adjoining ranges: `Searched`.
 -- Assumes nothing.
-use mathlib.Core.Path.{_≡_, refl, sym, ap, _∙_}
-use mathlib.Core.Logic.{⊎-elim}
-use mathlib.Core.Bool.{true, false}
-use mathlib.Core.List.{List, [], _∷_}
-use Prim.Native.Nat.{ℕ, _≤_, _<_}
-use native.Mathlib.Omega.{arith}
+use mathlib.Core.Path.{_≡_, refl, ap, _∙_}
+use mathlib.Core.Bool.{true, false, _||_}
+use mathlib.Core.List.{[], _∷_}
+use Prim.Native.Nat.{ℕ, _^_, _≤_, _<_}
 use borrow.Author.Tests.{lt-ltb, le-ltb, ltb-false}
 use Rattle.gf2.specs.Poly.{degree}
-use Rattle.gf2.specs.Truth.{bool-cases, or-right, or-false}
+use Rattle.gf2.specs.Truth.{or-right}
+use Rattle.refusals.specs.Verdicts.{Verdict, clear, refuse, firstOf}
+use Rattle.refusals.specs.Orders.{first-applies, first-passes, first-clear, part-refused, part-clear, parts-clear}
+use Rattle.refusals.specs.Answers.{answerOf}
 use Rattle.field.specs.Accepted.{degreeOutside, Accepted}
-use Rattle.refusals.specs.Verdicts.{Rule, Verdict, clear, refuse, firstOf}
-use Rattle.field.specs.Refusals.{numberOf, tooLarge, degreeRule, elementRule, divisorRule, returnRule, fieldOrder}
-use Rattle.refusals.specs.Orders.{first-applies, first-passes, first-clear}
-use Rattle.field.specs.Orders.{any-first, any-next, not-too-large}
-use Rattle.field.specs.Checked.{accepted-degree, accepted-irreducible, accepted-returns}
+use Rattle.field.specs.Refusals.{tooLarge, degreeRule, operandOrder, fieldOrder}
+use Rattle.field.specs.Orders.{operand-inside, element-large, none-large, operands-judged}
+use Rattle.field.specs.Checked.{field-accepts, accepted-irreducible, accepted-returns}
 use Rattle.search.specs.Answers.{rangeRule, searchOrder, searchOf, caseReport, reportOf}
 use Rattle.search.specs.Begun.{RangeOf}
 use Rattle.search.specs.declared.answer.Search.{Search}
-use Rattle.search.specs.declared.answer.Search.the-variants.{Refused}
 
 -- ---- the answers
 
--- a verdict by its number alone
-pub search-refused : (v : Verdict) (k : ℕ) (x : Search) → k ≡ numberOf v → (k ≡ 0 → ⊥) → (Refused k ≡ searchOf v x) × (caseReport (Refused k) ≡ reportOf v x)
-unfolding numberOf searchOf caseReport reportOf
-search-refused clear k x e z = absurd (z e)
-search-refused (refuse j p) k x e z = rw e (refl, refl)
+search-report : (v : Verdict) (x : Search) → caseReport (searchOf v x) ≡ reportOf v x
+unfolding answerOf caseReport reportOf
+search-report clear x = refl
+search-report (refuse k p) x = refl
 
-pub search-done : {v : Verdict} (x : Search) {y : Search} → y ≡ x → v ≡ clear → (y ≡ searchOf v x) × (caseReport y ≡ reportOf v x)
-unfolding searchOf reportOf
-search-done {v} x {y} e p = rw (p, e) (refl, refl)
+-- the clauses of the promise, from the first of them
+pub search-promised : (v : Verdict) (x : Search) {r : Search} → r ≡ searchOf v x → (r ≡ searchOf v x) × (caseReport r ≡ reportOf v x)
+search-promised v x e = (e, ap caseReport e ∙ search-report v x)
 
-pub number-refused : {v : Verdict} (k : ℕ) → v ≡ refuse k 0 → k ≡ numberOf v
-unfolding numberOf
-number-refused {v} k e = rw e
-
--- ---- along the order
+-- ---- 12
 
 module _ (f first last : ℕ) where
+  pub range-empty : last < first → firstOf (rangeRule first last ∷ fieldOrder f) ≡ refuse 12 0
+  range-empty l = first-applies (rangeRule first last) _ (lt-ltb last first l)
+
+  pub range-past : first ≤ last → firstOf (rangeRule first last ∷ fieldOrder f) ≡ firstOf (fieldOrder f)
+  range-past l = first-passes (rangeRule first last) _ (le-ltb last first l)
+
+  -- ---- along the order
+
   pub search-outside : degreeOutside f ≡ true → firstOf (searchOrder f first last) ≡ refuse 1 0
   search-outside e = first-applies (degreeRule f) _ e
 
   module _ (inside : degreeOutside f ≡ false) where
-    pub search-first : tooLarge (degree f) first ≡ true → firstOf (searchOrder f first last) ≡ refuse 4 0
-    search-first e =
-        first-passes (degreeRule f) _ inside
-        ∙ first-applies (elementRule (degree f) (first ∷ last ∷ [])) _ (any-first (degree f) first (last ∷ []) e)
-
     pub search-last : tooLarge (degree f) last ≡ true → firstOf (searchOrder f first last) ≡ refuse 4 0
     search-last e =
-        first-passes (degreeRule f) _ inside
-        ∙ first-applies (elementRule (degree f) (first ∷ last ∷ [])) _ (or-right (tooLarge (degree f) first) _ (any-first (degree f) last [] e))
+        part-refused (operandOrder f (first ∷ last ∷ [])) (rangeRule first last ∷ fieldOrder f) 4 0
+        (operand-inside f (degree f) (first ∷ last ∷ []) refl inside
+        ∙ element-large (degree f) (first ∷ last ∷ []) (or-right (tooLarge (degree f) first) (tooLarge (degree f) last || false) (rw e)))
 
-    module _ (p : tooLarge (degree f) first ≡ false) (q : tooLarge (degree f) last ≡ false) where
-      ends : firstOf (searchOrder f first last) ≡ firstOf (rangeRule first last ∷ fieldOrder f)
-      ends =
-          first-passes (degreeRule f) _ inside
-          ∙ first-passes (elementRule (degree f) (first ∷ last ∷ [])) _ (any-next (degree f) first (last ∷ []) p (any-next (degree f) last [] q refl))
-
-      pub search-empty : last < first → firstOf (searchOrder f first last) ≡ refuse 12 0
-      search-empty l = ends ∙ first-applies (rangeRule first last) _ (lt-ltb last first l)
-
-      pub search-past : first ≤ last → firstOf (searchOrder f first last) ≡ firstOf (fieldOrder f)
-      search-past l = ends ∙ first-passes (rangeRule first last) _ (le-ltb last first l)
+    pub search-past : tooLarge (degree f) first ≡ false → tooLarge (degree f) last ≡ false → first ≤ last → firstOf (searchOrder f first last) ≡ firstOf (fieldOrder f)
+    search-past p q l =
+        part-clear (operandOrder f (first ∷ last ∷ [])) (rangeRule first last ∷ fieldOrder f)
+        (operand-inside f (degree f) (first ∷ last ∷ []) refl inside ∙ none-large (degree f) first last p q)
+        ∙ range-past l
 
 -- ---- what the order leaves where none of its conditions applies
 
--- every number of the table is above 0
-Numbered : List Rule → Type 0
-Numbered [] = Unit {0}
-Numbered (r ∷ rs) = (0 < r .number) × Numbered rs
-
-number-clear : (rs : List Rule) → Numbered rs → numberOf (firstOf rs) ≡ 0 → firstOf rs ≡ clear
-unfolding firstOf numberOf Numbered
-number-clear [] s e = refl
-number-clear (r ∷ rs) s e =
-    ⊎-elim
-    (λ (p : r .applies ≡ true). let z : r .number ≡ 0 = sym (ap numberOf (first-applies r rs p)) ∙ e in absurd (omega (arith, s .0)))
-    (λ (p : r .applies ≡ false). first-passes r rs p ∙ number-clear rs (s .1) (sym (ap numberOf (first-passes r rs p)) ∙ e))
-    (bool-cases (r .applies))
-
-pub search-clear : (f first last : ℕ) (k : ℕ) → k ≡ numberOf (firstOf (searchOrder f first last)) → k ≡ 0 → firstOf (searchOrder f first last) ≡ clear
-unfolding Numbered
-search-clear f first last k e z =
-    number-clear (searchOrder f first last) (omega arith, (omega arith, (omega arith, (omega arith, (omega arith, tt))))) (sym e ∙ z)
-
 pub clear-range : (f n first last : ℕ) → n ≡ degree f → firstOf (searchOrder f first last) ≡ clear → RangeOf f n first last
 clear-range f n first last en e =
+    let s = parts-clear (operandOrder f (first ∷ last ∷ [])) (rangeRule first last ∷ fieldOrder f) e in
+    let ends = operands-judged f n first en last (s .0) in
+    let range = first-clear (rangeRule first last) (fieldOrder f) (s .1) in
     let one = first-clear (degreeRule f) _ e in
-    let four = first-clear (elementRule (degree f) (first ∷ last ∷ [])) _ (one .1) in
-    let twelve = first-clear (rangeRule first last) _ (four .1) in
-    let two = first-clear (divisorRule f) (returnRule f ∷ []) (twelve .1) in
-    let three = first-clear (returnRule f) [] (two .1) in
-    let s : Accepted f = record { in-range = one .0; undivided = two .0; returns = three .0 } in
-    let ends = or-false (tooLarge (degree f) first) _ (four .0) in
-    let d = accepted-degree f s in
-    rw en
-    (record {
+    let accepted : Accepted f = field-accepts f (one .0) .0 (range .1) in
+    let d = ends .1 .in-range in
+    record {
       of-field =
           record {
             two = d .two;
             most = d .most;
             is-degree = d .is-degree;
-            irreducible = accepted-irreducible f s;
-            returns = accepted-returns f s;
+            irreducible = accepted-irreducible f accepted;
+            returns = rw en (accepted-returns f accepted);
           };
-      ordered = ltb-false last first (twelve .0);
-      elements = not-too-large (degree f) last (or-false (tooLarge (degree f) last) _ (ends .1) .0);
-    })
+      ordered = ltb-false last first (range .0);
+      elements = ends .1 .small;
+    }

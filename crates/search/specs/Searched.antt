@@ -7,23 +7,21 @@ use mathlib.Core.Bool.{true, false}
 use mathlib.Core.List.{[], _∷_}
 use Prim.Native.Nat.{ℕ, suc, _^_, _≤_, _<_}
 use native.Mathlib.Omega.{arith}
-use borrow.Author.Tests.{le-leb, lt-leb}
+use borrow.Author.Tests.{le-leb}
 use Rattle.gf2.specs.Poly.{degree}
 use Rattle.gf2.specs.Numbers.{order}
 use Rattle.gf2.specs.Truth.{bool-cases}
 use Rattle.field.specs.Accepted.{degreeOutside, Accepted}
 use Rattle.refusals.specs.Verdicts.{Verdict, clear, refuse, firstOf}
-use Rattle.field.specs.Refusals.{tooLarge, divisorRule, returnRule, fieldOrder}
-use Rattle.refusals.specs.Orders.{first-passes, first-none}
+use Rattle.field.specs.Refusals.{tooLarge, fieldOrder}
+use Rattle.refusals.specs.Answers.{answerOf}
+use Rattle.field.specs.Orders.{small-enough}
+use Rattle.field.specs.Checked.{field-accepts}
 use Rattle.search.specs.Search.{joined, ranged}
 use Rattle.search.specs.Answers.{searchOrder, searchOf, searchAnswer}
 use Rattle.search.specs.Walks.{ranged-cut}
 use Rattle.search.specs.Orders.{search-outside, search-last, search-past}
 use Rattle.search.specs.declared.answer.Search.the-variants.{Refused}
-
-not-large : (n a : ℕ) → a < 2 ^ n → tooLarge n a ≡ false
-unfolding tooLarge
-not-large n a h = lt-leb (2 ^ n) a h
 
 large : (n a : ℕ) → 2 ^ n ≤ a → tooLarge n a ≡ true
 unfolding tooLarge
@@ -35,24 +33,22 @@ answer-past : (f first last : ℕ) → degreeOutside f ≡ false → first ≤ l
 unfolding searchAnswer
 answer-past f first last inside h l =
     ap (λ (v : Verdict). searchOf v (ranged f (degree f) first last))
-    (search-past f first last inside (not-large (degree f) first (omega arith)) (not-large (degree f) last l) h)
+    (search-past f first last inside (small-enough (degree f) first (omega arith)) (small-enough (degree f) last l) h)
 
 pub accepted-answer : (f : ℕ) → Accepted f → (first last : ℕ) → first ≤ last → last < 2 ^ degree f
     → searchAnswer f first last ≡ ranged f (degree f) first last
-unfolding searchOf
+unfolding answerOf
 accepted-answer f s first last h l =
-    let clears : firstOf (fieldOrder f) ≡ clear =
-    first-passes (divisorRule f) (returnRule f ∷ []) (s .undivided) ∙ first-passes (returnRule f) [] (s .returns) ∙ first-none in
-    answer-past f first last (s .in-range) h l ∙ rw clears
+    answer-past f first last (s .in-range) h l ∙ rw (field-accepts f (s .in-range) .1 s)
 
 answer-refused : (f first last k : ℕ) → firstOf (searchOrder f first last) ≡ refuse k 0 → searchAnswer f first last ≡ Refused k
-unfolding searchAnswer searchOf
+unfolding searchAnswer answerOf
 answer-refused f first last k e = rw e
 
 -- the answers of two adjoining ranges, whatever they are, determine the answer of their union
 pub search-joined : (f first mid last : ℕ) → first ≤ mid → mid < last
     → searchAnswer f first last ≡ joined (searchAnswer f first mid) (searchAnswer f (suc mid) last)
-unfolding joined searchOf
+unfolding joined answerOf
 search-joined f first mid last h l =
     ⊎-elim
     (λ (o : degreeOutside f ≡ true).
