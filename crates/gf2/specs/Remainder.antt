@@ -169,7 +169,7 @@ module _ (f n : ℕ) (deg : Degree f n) where
   rem-multiple q = sym (rem-product-r q f) ∙ rw (rem-self, product-zero-r) (rem-zero f n)
 
   -- what differs by a multiple of f has the same remainder
-  rem-same : (q a : ℕ) → rem f n (product q f ⊕ a) ≡ rem f n a
+  pub rem-same : (q a : ℕ) → rem f n (product q f ⊕ a) ≡ rem f n a
   rem-same q a = rw (rem-⊕, rem-multiple q) (zero-⊕ _)
 
   -- the remainder is the one number below 2 ^ n that differs from a by a multiple of f

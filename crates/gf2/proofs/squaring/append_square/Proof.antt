@@ -1,38 +1,73 @@
--- `gf2::squaring::append_square` meets its contract: what is walked has no coefficient from n + 16 upward.
--- Assumes nothing.
-use mathlib.Core.Path.{_≡_, ap, _∙_}
-use Prim.Native.Nat.{ℕ, _+_, _*_, _%_, _^_, _≤_, _<_}
+-- `gf2::squaring::append_square` meets its contract. The invariant: moved is r moved up by as many places as were passed, reduced.
+-- The measure is the number of places to come. Assumes nothing.
+use mathlib.Core.Path.{_≡_, sym, ap, _∙_}
+use Prim.Native.Nat.{ℕ, _+_, _-_, _*_, _^_, _≤_, _<_}
+use native.Mathlib.Nat.{mul-one}
 use native.Mathlib.Omega.{arith}
 use borrow.Author.Needs.{needs}
 use lib.Bits.{bitXor}
-use lib.Pow.{pow-mono, shl-exact, shl-lt}
 use Rattle.gf2.specs.Poly.{_⊕_, rem}
-use Rattle.gf2.specs.Sum.{⊕-lt}
+use Rattle.gf2.specs.Remainder.{rem-small}
+use Rattle.gf2.specs.Steps.{rem-turn}
+use Rattle.gf2.specs.Raised.{raised-degree, rem-fits, rem-appended}
 use Rattle.gf2.proofs.squaring.append_square.Statement.{statement}
 use Rattle.gf2.proofs.squaring.append_square.Tie as tie
 
-module _ (n r s : ℕ) (small : n + 16 ≤ 64) (hr : r < 2 ^ n) (hs : s < 2 ^ 16) where
-  -- nothing is shifted out
-  moved : bitXor (r * 2 ^ 16 % 2 ^ 64) s ≡ r * 2 ^ 16 ⊕ s
+abbrev Inv-loop : tie.InvT-loop
+Inv-loop low r s moved₀ place₀ moved place = (place ≤ 16) × (moved ≡ rem (2 ^ 64 + low) 64 (r * 2 ^ place))
+
+abbrev μ-loop : tie.MeasureT-loop
+μ-loop low r s moved₀ place₀ moved place = 16 - place
+
+module _ (low r s : ℕ) (hl : low < 2 ^ 64) (hs : s < 2 ^ 16) where
+  appended : (m : ℕ) → m ≡ rem (2 ^ 64 + low) 64 (r * 2 ^ 16) → bitXor m s ≡ rem (2 ^ 64 + low) 64 (r * 2 ^ 16 ⊕ s)
   unfolding _⊕_
-  moved = ap (λ (x : ℕ). bitXor x s) (shl-exact n 16 64 hr small)
+  appended m e = rem-appended (2 ^ 64 + low) r m s (raised-degree low hl) hs e
 
-  below : bitXor (r * 2 ^ 16 % 2 ^ 64) s < 2 ^ (n + 16)
-  below =
-      let h : 16 ≤ n + 16 = omega arith in
-      rw moved (⊕-lt (n + 16) (r * 2 ^ 16) s (shl-lt n 16 hr) (omega (arith, pow-mono h)))
-
-add-remainder : tie.Need-add-remainder
-add-remainder c = search needs
-
-remainder-requires : tie.Need-remainder-requires
-remainder-requires c κs =
-    (c .pre .0, c .pre .1, below (c .args .n) (c .args .r) (c .args .s) (c .pre .0) (c .pre .2) (c .pre .3))
-
-returns : tie.Need-returns
+returns : tie.Need-returns Inv-loop μ-loop
 returns c =
     let s = c .before in
-    c .remainder .ensures ∙ ap (rem (s .args .f) (s .args .n)) (moved (s .args .n) (s .args .r) (s .args .s) (s .pre .0) (s .pre .2) (s .pre .3))
+    appended (s .args .low) (s .args .r) (s .args .s) (s .fits .low .fits) (s .pre) _ (rem-fits (2 ^ 64 + s .args .low) (s .args .r) 48 16 (omega arith) (omega arith))
+
+loop-holds : tie.Need-loop-holds Inv-loop μ-loop
+loop-holds c =
+    let s = c .before in
+    (omega arith, sym (ap (rem (2 ^ 64 + s .args .low) 64) (mul-one (s .args .r)) ∙ rem-small (2 ^ 64 + s .args .low) 64 (s .args .r) (s .fits .r .fits)))
+
+times-x-requires : tie.Need-times-x-requires Inv-loop μ-loop
+times-x-requires c κs = search needs
+
+add-place : tie.Need-add-place Inv-loop μ-loop
+add-place c = search needs
+
+loop-less : tie.Need-loop-less Inv-loop μ-loop
+loop-less c = search needs
+
+loop-again : tie.Need-loop-again Inv-loop μ-loop
+loop-again c =
+    let l = c .before .before in
+    let s = l .before .before in (
+      omega arith,
+      rem-turn _ 64 (raised-degree (s .args .low) (s .fits .low .fits)) (s .args .r) (l .loop .place) (l .loop .moved) (c .times-x .result) (l .loop .inv .1) (c .times-x .ensures),
+    )
+
+returns-2 : tie.Need-returns-2 Inv-loop μ-loop
+returns-2 c =
+    let l = c .before in
+    let s = l .before .before in
+    let all : l .loop .place ≡ 16 = omega arith in
+    appended (s .args .low) (s .args .r) (s .args .s) (s .fits .low .fits) (s .pre) (l .loop .moved) (rw all at (l .loop .inv .1))
 
 pub append-square-spec : {M : Type 1} → statement M
-append-square-spec = tie.close (tie.spec add-remainder remainder-requires returns)
+append-square-spec =
+    tie.close
+    (tie.spec
+    Inv-loop
+    μ-loop
+    returns
+    loop-holds
+    times-x-requires
+    add-place
+    loop-less
+    loop-again
+    returns-2)

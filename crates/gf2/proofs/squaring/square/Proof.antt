@@ -1,32 +1,45 @@
--- `gf2::squaring::square` meets its contract. The invariant: r is the square of the coefficients of a from k upward.
+-- `gf2::squaring::square` meets its contract. The invariant: modulo f moved up, r is the square of the coefficients of a from k upward.
 -- The measure is k. Assumes nothing.
-use mathlib.Core.Path.{_≡_, sym, ap, _∙_}
-use Prim.Native.Nat.{ℕ, _-_, _/_, _%_, _^_, _≤_, _<_}
-use native.Mathlib.Nat.{div-one, div-eq-of-lt}
+use mathlib.Core.Path.{_≡_, refl, sym, ap, _∙_}
+use Prim.Native.Nat.{ℕ, _+_, _-_, _*_, _/_, _%_, _^_, _≤_, _<_}
+use native.Mathlib.Nat.{mod-lt, div-one, div-eq-of-lt}
 use native.Mathlib.Omega.{arith}
 use borrow.Author.Needs.{needs}
-use lib.Pow.{pow-mono}
-use Rattle.gf2.specs.Poly.{product, rem, mulMod}
+use lib.Pow.{pow-pos, pow-mono}
+use Rattle.gf2.specs.Poly.{product, rem, mulMod, Degree}
 use Rattle.gf2.specs.Product.{product-zero-l}
-use Rattle.gf2.specs.Remainder.{rem-zero, rem-lt}
+use Rattle.gf2.specs.Remainder.{rem-zero}
 use Rattle.gf2.specs.Steps.{square-turn}
+use Rattle.gf2.specs.Raised.{raised-degree, rem-raised-first, square-fits}
 use Rattle.gf2.proofs.squaring.square.Statement.{statement}
 use Rattle.gf2.proofs.squaring.square.Tie as tie
 
 abbrev Inv-loop : tie.InvT-loop
-Inv-loop table f n a r₀ k₀ r k = (k ≤ 64) × (k % 8 ≡ 0) × (r ≡ rem f n (product (a / 2 ^ k) (a / 2 ^ k)))
+Inv-loop table f n a low r₀ k₀ r k = (k ≤ 64) × (k % 8 ≡ 0) × (r ≡ rem (2 ^ 64 + low) 64 (product (a / 2 ^ k) (a / 2 ^ k)))
 
 abbrev μ-loop : tie.MeasureT-loop
-μ-loop table f n a r₀ k₀ r k = k
+μ-loop table f n a low r₀ k₀ r k = k
 
-start : (f n a k : ℕ) → n ≤ k → a < 2 ^ n → 0 ≡ rem f n (product (a / 2 ^ k) (a / 2 ^ k))
+start : (f n a k : ℕ) → n ≤ k → a < 2 ^ n → 0 ≡ rem f 64 (product (a / 2 ^ k) (a / 2 ^ k))
 start f n a k h l =
     let e : a / 2 ^ k ≡ 0 = div-eq-of-lt (omega (arith, pow-mono h)) in
-    sym (rw (e, product-zero-l) (rem-zero f n))
+    sym (rw (e, product-zero-l) (rem-zero f 64))
 
-done : (f n a k r : ℕ) → k ≡ 0 → r ≡ rem f n (product (a / 2 ^ k) (a / 2 ^ k)) → r ≡ mulMod f n a a
+whole : (f a k r : ℕ) → k ≡ 0 → r ≡ rem f 64 (product (a / 2 ^ k) (a / 2 ^ k)) → r ≡ rem f 64 (product a a)
+whole f a k r e h = h ∙ ap (λ (x : ℕ). rem f 64 (product (a / 2 ^ x) (a / 2 ^ x))) e ∙ rw div-one
+
+done : (f n a k r : ℕ) → Degree f n → n < 64 → k ≡ (64 - n) % 64 → r ≡ rem (2 ^ 64 + f * 2 ^ k % 2 ^ 64) 64 (product a a) → rem f n r ≡ mulMod f n a a
 unfolding mulMod
-done f n a k r e h = h ∙ ap (λ (x : ℕ). rem f n (product (a / 2 ^ x) (a / 2 ^ x))) e ∙ rw div-one
+done f n a k r deg small e h = ap (rem f n) h ∙ rem-raised-first f n deg small k (product a a) e
+
+sub-low : tie.Need-sub-low Inv-loop μ-loop
+sub-low c = search needs
+
+cast-low : tie.Need-cast-low Inv-loop μ-loop
+cast-low c = search needs
+
+shl-low : tie.Need-shl-low Inv-loop μ-loop
+shl-low c = search needs
 
 add-k : tie.Need-add-k Inv-loop μ-loop
 add-k c = search needs
@@ -35,7 +48,7 @@ mul-k : tie.Need-mul-k Inv-loop μ-loop
 mul-k c = search needs
 
 loop-holds : tie.Need-loop-holds Inv-loop μ-loop
-loop-holds c = (omega (arith, c .pre .1), omega arith, start (c .args .f) (c .args .n) (c .args .a) _ (omega arith) (c .pre .3))
+loop-holds c = (omega (arith, c .pre .1), omega arith, start _ (c .args .n) (c .args .a) _ (omega arith) (c .pre .3))
 
 sub-k : tie.Need-sub-k Inv-loop μ-loop
 sub-k c = omega arith
@@ -56,14 +69,7 @@ wide-requires : tie.Need-wide-requires Inv-loop μ-loop
 wide-requires c κs = search needs
 
 append-square-requires : tie.Need-append-square-requires Inv-loop μ-loop
-append-square-requires c κs =
-    let l = c .before .before .before in
-    let s = l .before in (
-      s .pre .1,
-      s .pre .2,
-      rw (l .loop .inv .2) (rem-lt (s .args .f) (s .args .n) (s .pre .2) _),
-      c .wide .ensures .1,
-    )
+append-square-requires c κs = c .wide .ensures .1
 
 loop-less : tie.Need-loop-less Inv-loop μ-loop
 loop-less c = omega arith
@@ -77,14 +83,32 @@ loop-again c =
       omega (arith, l .loop .inv .0),
       omega (arith, l .loop .inv .1),
       c .append-square .ensures
-          ∙ square-turn (s .args .f) (s .args .n) (s .pre .2) (s .args .a) (l .loop .k) (l .loop .r) (w .wide .result) (omega (arith, l .loop .inv .1)) (l .loop .inv .2)
+          ∙ square-turn _ 64 (raised-degree _ (mod-lt _ (pow-pos 64))) (s .args .a) (l .loop .k) (l .loop .r) (w .wide .result) (omega (arith, l .loop .inv .1)) (l .loop .inv .2)
           (w .wide .ensures .0 ∙ s .pre .0 .rule b (omega arith)),
+    )
+
+square-width-requires : tie.Need-square-width-requires Inv-loop μ-loop
+square-width-requires c κs = search needs
+
+-- all bytes are in
+squared : (c : tie.After-loop Inv-loop μ-loop) → let l = c .before in let s = l .before .args in
+    l .loop .r ≡ rem (2 ^ 64 + s .f * 2 ^ ((64 - s .n) % 64) % 2 ^ 64) 64 (product (s .a) (s .a))
+squared c = let l = c .before in whole _ (l .before .args .a) (l .loop .k) (l .loop .r) (omega arith) (l .loop .inv .2)
+
+remainder-requires : tie.Need-remainder-requires Inv-loop μ-loop
+remainder-requires c κs =
+    let l = c .before in
+    let s = l .before .before in (
+      c .square-width .ensures .0,
+      s .pre .2,
+      square-fits _ (s .args .n) (s .args .a) (c .square-width .result) (l .before .loop .r) (mod-lt _ (pow-pos 64)) (s .pre .3) (c .square-width .ensures .1) (c .square-width .ensures .0) (squared l),
     )
 
 returns : tie.Need-returns Inv-loop μ-loop
 returns c =
-    let l = c .before in
-    done (l .before .args .f) (l .before .args .n) (l .before .args .a) (l .loop .k) (l .loop .r) (omega arith) (l .loop .inv .2)
+    let l = c .before .before in
+    let s = l .before .before in
+    c .remainder .ensures ∙ done (s .args .f) (s .args .n) (s .args .a) _ (l .before .loop .r) (s .pre .2) (s .pre .1) refl (squared l)
 
 pub square-spec : {M : Type 1} → statement M
 square-spec =
@@ -92,6 +116,9 @@ square-spec =
     (tie.spec
     Inv-loop
     μ-loop
+    sub-low
+    cast-low
+    shl-low
     add-k
     mul-k
     loop-holds
@@ -104,4 +131,6 @@ square-spec =
     append-square-requires
     loop-less
     loop-again
+    square-width-requires
+    remainder-requires
     returns)
