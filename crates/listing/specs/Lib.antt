@@ -1,5 +1,6 @@
--- Listings: definitions in `Text`, laws in the rest.
+-- Listings: definitions in `Text` and `Room`, laws in the rest.
 pub mod Text
+pub mod Room
 pub mod Decimal
 pub mod Putting
 pub mod Lines

@@ -14,23 +14,24 @@ use Rattle.io.specs.Digits.{digits, Fewest}
 use Rattle.sheet.specs.Record.{conjugateIn, inverseIn, tableIn}
 use Rattle.listing.specs.Text.{space, newline, complexityWord, gradeWord, refusedWord, numberThen, rowLine, rowLines, lastLine, refusedLine}
 use Rattle.listing.specs.Decimal.{decimal-digits}
-use Rattle.listing.specs.Putting.{numberRoom, Put, put-none, put-then, put-mark}
+use Rattle.listing.specs.Room.{numberPlaces, numberRoom}
+use Rattle.listing.specs.Putting.{Put, put-none, put-then, put-mark}
 
 -- ---- a number
 
--- a number of 64 bits has at most 20 digits
-pub digits-few : (v k : ℕ) → v < 2 ^ 64 → Fewest 10 1 v k → k ≤ 20
+-- a number of 64 bits has at most so many digits
+pub digits-few : (v k : ℕ) → v < 2 ^ 64 → Fewest 10 1 v k → k ≤ numberPlaces
 digits-few v k h f =
     ⊎-elim
-    (λ (u : k < 21). omega arith)
-    (λ (u : 21 ≤ k).
-    let m : 10 ^ 20 ≤ 10 ^ (k - 1) = pow-le-pow-right (omega arith) {i = 20} {j = k - 1} (omega arith) in
+    (λ (u : k < numberRoom). omega arith)
+    (λ (u : numberRoom ≤ k).
+    let m : 10 ^ numberPlaces ≤ 10 ^ (k - 1) = pow-le-pow-right (omega arith) {i = numberPlaces} {j = k - 1} (omega arith) in
     absurd (omega (arith, f .2 (omega arith))))
-    (order k 21)
+    (order k numberRoom)
 
 module _ (start spelled b : List ℕ) (at v k m mark : ℕ) (small : v < 2 ^ 64) (fewest : Fewest 10 1 v k) (spells : take k spelled ≡ digits 10 k v)
     (counts : Counts k spelled) (put : Put start at (take k spelled) b m) (fits : at + numberRoom ≤ length start) where
-  pub number-ends : m ≤ at + 20
+  pub number-ends : m ≤ at + numberPlaces
   number-ends = omega (arith, put .ends, counts .1, digits-few v k small fewest)
 
   pub number-put : Put start at (numberThen v mark) (set b m mark) (m + 1)

@@ -1,12 +1,14 @@
--- The whole listing: its lines by what reading answers, and its size.
+-- The whole listing: its lines by what reading answers, its size, and that it fits into the room made for it.
 -- Assumes nothing.
 use mathlib.Core.Path.{_≡_, sym, ap}
 use mathlib.Core.List.{List, _++_}
-use Prim.Native.Nat.{ℕ}
+use Prim.Native.Nat.{ℕ, _+_, _*_, _≤_}
+use native.Mathlib.Nat.{mul-le-mul-left}
 use native.Mathlib.Omega.{arith}
 use lib.ListN.{length, drop, length-append}
 use lib.Seq.{take-append-seam}
 use Rattle.io.specs.Counts.{Counts}
+use Rattle.gf2.specs.Limit.{limit}
 use Rattle.refusals.specs.Verdicts.{firstOf}
 use Rattle.refusals.specs.declared.answer.Refusal.{Refusal}
 use Rattle.normal.specs.Grades.{gradeNumber}
@@ -19,6 +21,7 @@ use Rattle.sheet.specs.Clear.{clear-shaped}
 use Rattle.sheet.specs.declared.answer.Summary.{Summary}
 use Rattle.sheet.specs.declared.answer.Issued.the-variants as issued
 use Rattle.listing.specs.Text.{rowLines, lastLine, refusedLine, listingBy, listingOf}
+use Rattle.listing.specs.Room.{rowRoom, lastRoom, refusedRoom, listingRoom}
 use Rattle.listing.specs.Putting.{Put, put-then, put-front}
 
 -- ---- a sheet that reading finds good has 2 to 46 records
@@ -27,6 +30,14 @@ pub done-sized : (sheet : List ℕ) (s : Summary) → readAnswer sheet ≡ issue
 unfolding readAnswer
 done-sized sheet s e =
     clear-shaped sheet (parts-clear (shapeOrder sheet) (rebuildOrder sheet) (done-clear (firstOf (readOrder sheet)) (summaryIn sheet) s e) .0) .size
+
+-- ---- each listing fits into its room
+
+pub rows-fit : (n : ℕ) → n ≤ limit → rowRoom * n + lastRoom ≤ listingRoom
+rows-fit n h = omega (arith, mul-le-mul-left rowRoom h)
+
+pub refused-fits : refusedRoom ≤ listingRoom
+refused-fits = omega arith
 
 -- ---- the lines that are put are the listing
 

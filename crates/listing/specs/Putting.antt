@@ -1,36 +1,15 @@
 -- Text put into a lent buffer: bytes at a place, and more bytes after them.
 --
---   ..Room                         the most bytes that a number or a line takes
 --   Put start at bytes text next   text is start with the bytes at a place, and next is the place after them
 --
 -- Assumes nothing.
 use mathlib.Core.Path.{_≡_, sym, ap, _∙_}
 use mathlib.Core.List.{List, [], _∷_, _++_}
-use Prim.Native.Nat.{ℕ, _+_, _*_, _≤_, _<_}
+use Prim.Native.Nat.{ℕ, _+_, _≤_, _<_}
 use native.Mathlib.Nat.{add-zero, add-assoc, zero-add}
 use native.Mathlib.Omega.{arith}
 use lib.ListN.{length, drop, set, length-append}
 use Rattle.sheet.specs.Bytes.{pasted, pasted-none, pasted-length, pasted-next, pasted-set}
-
--- ---- room
-
--- the digits of a number of 64 bits, at most 20, and the mark after them
-abbrev pub numberRoom : ℕ
-numberRoom = 21
-
--- four numbers
-abbrev pub rowRoom : ℕ
-rowRoom = 4 * numberRoom
-
--- "complexity ", a number, "grade ", a number
-abbrev pub lastRoom : ℕ
-lastRoom = 11 + numberRoom + 6 + numberRoom
-
--- "refused ", a number, a number
-abbrev pub refusedRoom : ℕ
-refusedRoom = 8 + numberRoom + numberRoom
-
--- ---- bytes at a place
 
 pub record Put (start : List ℕ) (at : ℕ) (bytes text : List ℕ) (next : ℕ) : Type 0 where
   pub holds : text ≡ pasted start at bytes

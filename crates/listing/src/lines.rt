@@ -5,7 +5,9 @@ ghost use Rattle.gf2.specs.Limit.{limit};
 ghost use Rattle.normal.specs.Grades.{gradeNumber};
 ghost use Rattle.sheet.specs.Record.{recordSize};
 ghost use Rattle.listing.specs.Text.{rowLine, rowLines, lastLine, refusedLine};
-ghost use Rattle.listing.specs.Putting.{rowRoom, lastRoom, refusedRoom, Put};
+ghost use Rattle.listing.specs.Room.{rowRoom, lastRoom, refusedRoom};
+ghost use Rattle.listing.specs.Putting.{Put};
+use super::putting::NUMBER_ROOM;
 use super::putting::put_bytes;
 use super::putting::put_number;
 use normal::Grade;
@@ -15,6 +17,11 @@ use sheet::row_at;
 const SPACE: u8 = 32;
 
 const NEWLINE: u8 = 10;
+
+// The most bytes of a row's line, and of the last line. The specs have them as `rowRoom` and `lastRoom`.
+pub const ROW_ROOM: usize = 4 * NUMBER_ROOM;
+
+pub const LAST_ROOM: usize = 11 + NUMBER_ROOM + 6 + NUMBER_ROOM;
 
 // Row i of the sheet: its number, conjugate, inverse row and table row.
 fn put_row(text: &mut [u8], at: usize, sheet: &[u8], i: usize) -> usize

@@ -4,15 +4,18 @@ ghost use mathlib.Core.List.{_++_};
 ghost use lib.ListN.{length, drop};
 ghost use Rattle.io.specs.Counts.{Counts};
 ghost use Rattle.listing.specs.Text.{listingOf};
+use super::lines::LAST_ROOM;
+use super::lines::ROW_ROOM;
 use super::lines::put_last;
 use super::lines::put_refused;
 use super::lines::put_rows;
+use gf2::LIMIT;
 use sheet::Issued;
 use sheet::RECORD;
 use sheet::read;
 
-// A text that every listing fits into.
-pub const LISTING_ROOM: usize = 4096;
+// A text that every listing fits into: as many rows as a sheet can have, and the last line. The specs have it as `listingRoom`.
+pub const LISTING_ROOM: usize = ROW_ROOM * LIMIT + LAST_ROOM;
 
 // The listing of the sheet, at the text's front; the answer is its length. The rest of the text stays as it came. The clause
 // counted follows from the two before it; a caller that takes the front of the text asks for it.

@@ -19,13 +19,14 @@ use lib.Pow.{pow-add}
 use lib.ListN.{length, getD, drop, length-append, List·getD-append}
 use lib.Seq.{getD-append-add, getD-drop, drop-drop, drop-at}
 use Rattle.gf2.specs.Poly.{_⊕_}
+use Rattle.gf2.specs.Limit.{limit}
 use Rattle.gf2.specs.Sum.{⊕-assoc, ⊕-comm, ⊕-zero}
 use Rattle.rows.specs.Rows.{comb}
 use Rattle.rows.specs.Linear.{high-apart}
 use Rattle.rows.specs.Sums.{comb-⊕, comb-zero, comb-drop}
 
 abbrev pub bytes : ℕ
-bytes = 6
+bytes = (limit + 7) / 8
 
 unfoldable pub sumsFrom : (rows : List ℕ) (v count : ℕ) → List ℕ
 sumsFrom rows v zero = []

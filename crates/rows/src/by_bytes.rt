@@ -10,7 +10,7 @@ use super::bits::power;
 use gf2::LIMIT;
 
 // The bytes of a number below 2^LIMIT, and so the tables of a matrix. The specs have it as `bytes`.
-const BYTES: usize = 6;
+const BYTES: usize = (LIMIT + 7) / 8;
 
 // The entries of all tables.
 pub const BYTE_SUMS: usize = 256 * BYTES;

@@ -4,7 +4,8 @@ use mathlib.Core.Path.{_≡_}
 use Prim.Native.Nat.{_-_, _*_, _≤_}
 use native.Mathlib.Omega.{arith}
 use Rattle.listing.specs.Text.{rowLines}
-use Rattle.listing.specs.Putting.{rowRoom, Put, put-length}
+use Rattle.listing.specs.Room.{rowRoom}
+use Rattle.listing.specs.Putting.{Put, put-length}
 use Rattle.listing.specs.Lines.{rows-none, rows-turn}
 use Rattle.listing.proofs.lines.put_rows.Statement.{statement}
 use Rattle.listing.proofs.lines.put_rows.Tie as tie

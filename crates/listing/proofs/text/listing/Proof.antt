@@ -4,7 +4,7 @@ use mathlib.Core.Path.{sym, _∙_}
 use native.Mathlib.Omega.{arith}
 use borrow.Author.Needs.{needs}
 use Rattle.listing.specs.Putting.{put-length}
-use Rattle.listing.specs.Listing.{done-sized, listed-done, listed-refused}
+use Rattle.listing.specs.Listing.{done-sized, rows-fit, refused-fits, listed-done, listed-refused}
 use Rattle.listing.proofs.text.listing.Statement.{statement}
 use Rattle.listing.proofs.text.listing.Tie as tie
 
@@ -15,7 +15,7 @@ enum-known-refusal : tie.Need-enum-known-refusal
 enum-known-refusal c = search needs
 
 put-refused-requires : tie.Need-put-refused-requires
-put-refused-requires c κs = search needs
+put-refused-requires c κs = omega (arith, refused-fits)
 
 enum-known-summary : tie.Need-enum-known-summary
 enum-known-summary c = search needs
@@ -26,7 +26,7 @@ put-rows-requires c κs =
     let r = y .before .before in
     let s = r .before .before in
     let z = done-sized (s .args .sheet .now) (y .summary .given .0 .0) (sym (r .read .ensures .0) ∙ y .summary .given .1) in
-    (z .most, omega (arith, z .most), omega arith)
+    (z .most, omega (arith, rows-fit _ (z .most)), omega arith)
 
 put-last-requires : tie.Need-put-last-requires
 put-last-requires c κs =
@@ -34,7 +34,7 @@ put-last-requires c κs =
     let r = y .before .before in
     let s = r .before .before in
     let z = done-sized (s .args .sheet .now) (y .summary .given .0 .0) (sym (r .read .ensures .0) ∙ y .summary .given .1) in
-    omega (arith, z .most, c .before .put-rows .ensures .1, put-length (c .before .put-rows .ensures .0))
+    omega (arith, rows-fit _ (z .most), c .before .put-rows .ensures .1, put-length (c .before .put-rows .ensures .0))
 
 returns : tie.Need-returns
 returns c =
