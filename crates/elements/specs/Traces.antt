@@ -26,7 +26,8 @@ use Rattle.gf2.specs.Sum.{zero-⊕, ⊕-zero, ⊕-one-one, ⊕-half, ⊕-odd, �
 use Rattle.field.specs.Field.{trace}
 use Rattle.field.specs.Trace.{trace-⊕, trace-bit}
 use Rattle.rows.specs.Linear.{Linear, linear-after, linear-bit, linear-ext}
-use Rattle.rows.specs.Bits.{bitOf, _∩_, bitOf-⊕, bitOf-lt, bitOf-zero, bitOf-power, bitOf-other, ∩-comm, ∩-linear, ∩-power}
+use Rattle.rows.specs.Bits.{bitOf, _∩_}
+use Rattle.rows.specs.Sharing.{bitOf-⊕, bitOf-lt, bitOf-zero, bitOf-power, bitOf-other, ∩-comm, ∩-linear, ∩-power}
 use Rattle.normal.specs.Normal.{normal}
 use Rattle.normal.specs.Coordinates.{normal-means}
 use Rattle.normal.specs.Conjugated.{normal-trace}

@@ -12,7 +12,8 @@ use borrow.Author.Tests.{leb-true, le-leb}
 use Rattle.gf2.specs.Poly.{product, degree, Degree, Divides, divides}
 use Rattle.gf2.specs.Numbers.{order, zero-one-more}
 use Rattle.gf2.specs.Truth.{not-both, not-true-false, and-parts}
-use Rattle.gf2.specs.Bounded.{some-means, first, Found, first-is}
+use Rattle.gf2.specs.Bounded.{first, Found}
+use Rattle.gf2.specs.Existence.{some-means, first-is}
 use Rattle.gf2.specs.Product.{product-zero-l, product-zero-r, product-one-l, product-comm}
 use Rattle.gf2.specs.Degrees.{degree-is, degree-mono, degree-unique, degree-pos, degree-lt}
 use Rattle.gf2.specs.Divisors.{divides-trans, divides-means, Factors, factors, factor-lt}

@@ -1,4 +1,4 @@
--- Polynomials over the two-element field as numbers: definitions in `Poly`, laws in the rest.
+-- Polynomials over the two-element field as numbers: definitions in `Poly`, `Spread`, `Bounded` and `Limit`, laws in the rest.
 pub mod Poly
 pub mod Numbers
 pub mod Truth
@@ -8,7 +8,9 @@ pub mod Remainder
 pub mod Degrees
 pub mod Divisors
 pub mod Bounded
+pub mod Existence
 pub mod Spread
+pub mod SpreadRule
 pub mod Euclid
 pub mod Words
 pub mod Steps

@@ -15,7 +15,7 @@ use lib.Pow.{pow-lt, pow-pos}
 use borrow.Author.Tests.{eq-eqb, eqb-true, lt-ltb, ltb-true}
 use Rattle.gf2.specs.Poly.{mulMod, Degree}
 use Rattle.gf2.specs.Numbers.{order}
-use Rattle.gf2.specs.Bounded.{first-unique}
+use Rattle.gf2.specs.Existence.{first-unique}
 use Rattle.field.specs.Field.{squared}
 use Rattle.field.specs.Frobenius.{squared-lt}
 use Rattle.rows.specs.Rows.{comb, Matrix, Independent, Inverse, Dependency}

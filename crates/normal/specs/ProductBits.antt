@@ -23,7 +23,8 @@ use Rattle.gf2.specs.Steps.{bit-mul-lt}
 use Rattle.field.specs.Field.{squared}
 use Rattle.field.specs.Frobenius.{squared-fixes}
 use Rattle.rows.specs.Rows.{comb, Independent}
-use Rattle.rows.specs.Bits.{bitOf, bitOf-lt, bitOf-⊕}
+use Rattle.rows.specs.Bits.{bitOf}
+use Rattle.rows.specs.Sharing.{bitOf-lt, bitOf-⊕}
 use Rattle.rows.specs.Linear.{linear-bit}
 use Rattle.normal.specs.TableProduct.{rotate, entry, total, productBit, tableProduct}
 use Rattle.normal.specs.Rotation.{rotateBack, rotateBack-lt, rotate-bit, rotateBack-bit}

@@ -19,7 +19,8 @@ use lib.Seq.{ext-getD, take-suc}
 use borrow.Author.Tests.{lt-ltb, ltb-true, eq-eqb, eqb-true}
 use Rattle.gf2.specs.Poly.{_⊕_}
 use Rattle.gf2.specs.Sum.{⊕-comm}
-use Rattle.gf2.specs.Bounded.{some, some-means, none-means}
+use Rattle.gf2.specs.Bounded.{some}
+use Rattle.gf2.specs.Existence.{some-means, none-means}
 use Rattle.field.specs.Field.{squared}
 use Rattle.rows.specs.Rows.{comb}
 use Rattle.rows.specs.Bits.{bitOf}

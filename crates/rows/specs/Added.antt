@@ -18,7 +18,8 @@ use lib.Seq.{getD-set-same, getD-set-other}
 use Rattle.gf2.specs.Poly.{_⊕_}
 use Rattle.gf2.specs.Numbers.{order}
 use Rattle.gf2.specs.Sum.{⊕-zero}
-use Rattle.rows.specs.Bits.{bitOf, bitOf-zero}
+use Rattle.rows.specs.Bits.{bitOf}
+use Rattle.rows.specs.Sharing.{bitOf-zero}
 
 unfoldable pub added : (m c y : ℕ) (heads rows : List ℕ) → List ℕ
 added zero c y heads rows = rows

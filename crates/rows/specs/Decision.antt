@@ -16,7 +16,8 @@ use borrow.Author.Tests.{lt-ltb, ltb-true, eq-eqb, eqb-true}
 use Rattle.gf2.specs.Poly.{_⊕_}
 use Rattle.gf2.specs.Numbers.{order}
 use Rattle.gf2.specs.Truth.{not-true, and-parts, and-both}
-use Rattle.gf2.specs.Bounded.{some, none-means}
+use Rattle.gf2.specs.Bounded.{some}
+use Rattle.gf2.specs.Existence.{none-means}
 use Rattle.rows.specs.Rows.{comb, Matrix, Independent, independent, Inverse, Dependency}
 use Rattle.rows.specs.Sums.{comb-zero, comb-power, comb-lt}
 use Rattle.rows.specs.Bits.{_∩_}

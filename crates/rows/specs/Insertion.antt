@@ -23,7 +23,8 @@ use Rattle.gf2.specs.Sum.{zero-⊕, ⊕-self, ⊕-comm, ⊕-cancel, ⊕-middle,
 use Rattle.rows.specs.Rows.{comb, Dependency}
 use Rattle.rows.specs.Linear.{linear-ext, linear-after}
 use Rattle.rows.specs.Sums.{comb-⊕, comb-zero, comb-power, comb-lt, comb-sums, zeros-at}
-use Rattle.rows.specs.Bits.{bitOf, _∩_, bitOf-lt, bitOf-below, ∩-comm, ∩-zero, ⊕-∩, ∩-linear, ∩-power}
+use Rattle.rows.specs.Bits.{bitOf, _∩_}
+use Rattle.rows.specs.Sharing.{bitOf-lt, bitOf-below, ∩-comm, ∩-zero, ⊕-∩, ∩-linear, ∩-power}
 use Rattle.rows.specs.Pivots.{lowest-set, ones-none}
 use Rattle.rows.specs.Inverses.{undoes}
 

@@ -19,7 +19,8 @@ use Rattle.gf2.specs.Sum.{zero-⊕, ⊕-zero, ⊕-self, ⊕-assoc, ⊕-cancel, 
 use Rattle.rows.specs.Rows.{comb, Inverse}
 use Rattle.rows.specs.Linear.{Linear, linear-bit, linear-ext, linear-same, linear-⊕}
 use Rattle.rows.specs.Sums.{comb-⊕, comb-bit, comb-power, comb-lt}
-use Rattle.rows.specs.Bits.{bitOf, _∩_, bitOf-lt, bitOf-⊕, bitOf-zero, bitOf-below, ∩-comm, ∩-self, ⊕-∩, ∩-⊕, ∩-linear, ∩-power, power-apart, power-past, bitOf-power, bitOf-other, ∩-all, apart-bit}
+use Rattle.rows.specs.Bits.{bitOf, _∩_}
+use Rattle.rows.specs.Sharing.{bitOf-lt, bitOf-⊕, bitOf-zero, bitOf-below, ∩-comm, ∩-self, ⊕-∩, ∩-⊕, ∩-linear, ∩-power, power-apart, power-past, bitOf-power, bitOf-other, ∩-all, apart-bit}
 use Rattle.rows.specs.Pivots.{ones-all, ones-more}
 use Rattle.rows.specs.Added.{added, Placed, added-placed}
 use Rattle.rows.specs.Insertion.{Inserted, Reduced, sums-all, idle-row}

@@ -11,7 +11,8 @@ use lib.Dec.{ltb}
 use borrow.Author.Tests.{lt-ltb, ltb-true, not-true}
 use Rattle.gf2.specs.Poly.{Degree}
 use Rattle.gf2.specs.Numbers.{order}
-use Rattle.gf2.specs.Bounded.{some, some-means, none-means}
+use Rattle.gf2.specs.Bounded.{some}
+use Rattle.gf2.specs.Existence.{some-means, none-means}
 use Rattle.field.specs.Field.{squared}
 use Rattle.field.specs.Frobenius.{squared-add, squared-fixes}
 use Rattle.rows.specs.Rows.{Independent}

@@ -2,7 +2,7 @@
 -- Assumes nothing.
 use mathlib.Core.Path.{refl}
 use Rattle.gf2.specs.Poly.{spread, digits, digitsFrom}
-use Rattle.gf2.specs.Spread.{spreadsFrom, tested-table}
+use Rattle.gf2.specs.SpreadRule.{spreadsFrom, tested-table}
 use Rattle.gf2.proofs.spread.spread_table.Statement.{statement}
 use Rattle.gf2.proofs.spread.spread_table.Tie as tie
 

@@ -11,7 +11,8 @@ use lib.Pow.{pow-mono}
 use lib.ListN.{length, getD}
 use Rattle.gf2.specs.Poly.{_⊕_}
 use Rattle.gf2.specs.Limit.{limit}
-use Rattle.rows.specs.Bits.{_∩_, ∩-lt, width-le}
+use Rattle.rows.specs.Bits.{_∩_}
+use Rattle.rows.specs.Sharing.{∩-lt, width-le}
 use Rattle.rows.specs.Added.{length-placed}
 use Rattle.rows.specs.Insertion.{Inserted, Reduced, pivot-set, pivot-lt, insertion-start, row-reduced, row-dependent}
 use Rattle.rows.specs.Placing.{insertion-turn, insertion-end}
