@@ -9,7 +9,6 @@ mod squaring;
 pub use degree::LIMIT;
 pub use degree::degree_of;
 pub use division::picked;
-pub use division::remainder;
 pub use euclid::greatest_common;
 pub use multiplication::multiply;
 pub use spread::spread_table;

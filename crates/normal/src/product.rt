@@ -10,7 +10,7 @@ use gf2::picked;
 use rows::sum;
 
 // Bit i goes to i + 1, and bit n - 1 to 0.
-pub fn rotated(n: u32, v: u64) -> u64
+fn rotated(n: u32, v: u64) -> u64
     requires { ⌜ (1 ≤ n) × (n ≤ limit) × (v < 2 ^ n) ⌝ }
     ensures { λ r. ⌜ r ≡ rotate n v ⌝ }
 {
