@@ -6,12 +6,15 @@
 --   total k g                the sum of g 0 to g (k - 1)
 --   productBit n rows a b k  bit k of the product of a and b
 --   tableProduct n rows a b  the number with these bits
+--   Factors rows n a b       rows is a matrix of a degree within the limit, and a and b are coordinates: what a product asks
 --
 -- Assumes nothing.
 use mathlib.Core.List.{List}
-use Prim.Native.Nat.{ℕ, zero, suc, _+_, _-_, _*_, _/_, _%_, _^_}
+use Prim.Native.Nat.{ℕ, zero, suc, _+_, _-_, _*_, _/_, _%_, _^_, _≤_, _<_}
 use lib.ListN.{getD}
+use Rattle.gf2.specs.Limit.{limit}
 use Rattle.rows.specs.Bits.{bitOf}
+use Rattle.rows.specs.Rows.{Matrix}
 
 -- what stands above bit n-1 once all bits are moved up comes round to bit 0
 unfoldable pub rotate : (n v : ℕ) → ℕ
@@ -31,3 +34,10 @@ productBit n rows a b k =
 
 unfoldable pub tableProduct : (n : ℕ) (rows : List ℕ) (a b : ℕ) → ℕ
 tableProduct n rows a b = total n (λ k. productBit n rows a b k * 2 ^ k)
+
+pub record Factors (rows : List ℕ) (n a b : ℕ) : Type 0 where
+  pub one : 1 ≤ n
+  pub most : n ≤ limit
+  pub table : Matrix rows n
+  pub left : a < 2 ^ n
+  pub right : b < 2 ^ n

@@ -13,9 +13,9 @@ use lib.Seq.{length-take-le, getD-take}
 use Rattle.gf2.specs.Limit.{limit}
 use Rattle.gf2.specs.Numbers.{mod-two-lt}
 use Rattle.gf2.specs.Poly.{_⊕_}
-use Rattle.rows.specs.Rows.{comb, Matrix}
+use Rattle.rows.specs.Rows.{comb}
 use Rattle.rows.specs.Sums.{comb-take}
-use Rattle.normal.specs.TableProduct.{rotate, tableProduct}
+use Rattle.normal.specs.TableProduct.{rotate, tableProduct, Factors}
 use Rattle.normal.specs.Rotation.{rotate-lt}
 use Rattle.normal.specs.Products.{hornerProduct, hornerProduct-lt}
 use Rattle.normal.specs.ProductBits.{horner-table}
@@ -40,17 +40,23 @@ start : (n a b : ℕ) (table : List ℕ) → Taken n a b table 0 b n
 unfolding rotatedBy hornerProduct
 start n a b table = let z : n - n ≡ 0 = omega arith in (omega arith, rw z, rw z)
 
-module _ (n : ℕ) (pos : 1 ≤ n) (small : n ≤ limit) (table : List ℕ) (size : length table ≡ limit) (m : Matrix table n) (a b : ℕ) (hb : b < 2 ^ n) where
+module _ (n : ℕ) (table : List ℕ) (size : length table ≡ limit) (a b : ℕ) (given : Factors table n a b) where
+  pos : 1 ≤ n
+  pos = given .one
+
+  hb : b < 2 ^ n
+  hb = given .right
+
   T : List ℕ
   T = take n table
 
   T-size : length T ≡ n
   unfolding T
-  T-size = length-take-le n table (omega arith)
+  T-size = length-take-le n table (omega (arith, given .most))
 
   T-row : (i : ℕ) → i < n → getD T i 0 < 2 ^ n
   unfolding T
-  T-row i h = rw (getD-take n table i 0 h) (m .row-lt i)
+  T-row i h = rw (getD-take n table i 0 h) (given .table .row-lt i)
 
   module _ (product turned i : ℕ) (inv : Taken n a b table product turned i) where
     turned-lt : turned < 2 ^ n
@@ -93,19 +99,19 @@ rotated-requires : tie.Need-rotated-requires Inv-loop μ-loop
 rotated-requires c κs =
     let l = c .before in
     let s = l .before in
-    (s .pre .0, s .pre .1, turned-lt (s .args .n) (s .pre .0) (s .pre .1) (s .args .t1) (size s) (s .pre .2) (s .args .a) (s .args .b) (s .pre .4) (l .loop .product) (l .loop .turned) (l .loop .i) (l .loop .inv))
+    (omega (arith, s .pre .most), turned-lt (s .args .n) (s .args .t1) (size s) (s .args .a) (s .args .b) (s .pre) (l .loop .product) (l .loop .turned) (l .loop .i) (l .loop .inv))
 
 rotated-requires-2 : tie.Need-rotated-requires-2 Inv-loop μ-loop
 rotated-requires-2 c κs =
     let l = c .before .before in
     let s = l .before in
-    (s .pre .0, s .pre .1, product-lt (s .args .n) (s .pre .0) (s .pre .1) (s .args .t1) (size s) (s .pre .2) (s .args .a) (s .args .b) (s .pre .4) (l .loop .product) (l .loop .turned) (l .loop .i) (l .loop .inv))
+    (omega (arith, s .pre .most), product-lt (s .args .n) (s .args .t1) (size s) (s .args .a) (s .args .b) (s .pre) (l .loop .product) (l .loop .turned) (l .loop .i) (l .loop .inv))
 
 cast-picked : tie.Need-cast-picked Inv-loop μ-loop
 cast-picked c = search needs
 
 shr-picked : tie.Need-shr-picked Inv-loop μ-loop
-shr-picked c = omega (arith, c .before .before .before .before .pre .1)
+shr-picked c = omega (arith, c .before .before .before .before .pre .most)
 
 sum-requires : tie.Need-sum-requires Inv-loop μ-loop
 sum-requires c κs =
@@ -113,8 +119,8 @@ sum-requires c κs =
     let l = r .before .before in
     let s = l .before in
     let h : rotate (s .args .n) (l .loop .turned) < 2 ^ (s .args .n) =
-    rotate-lt (s .args .n) (s .pre .0) (l .loop .turned) (turned-lt (s .args .n) (s .pre .0) (s .pre .1) (s .args .t1) (size s) (s .pre .2) (s .args .a) (s .args .b) (s .pre .4) (l .loop .product) (l .loop .turned) (l .loop .i) (l .loop .inv)) in
-    rw (r .rotated .ensures) (omega (arith, h, pow-mono (s .pre .1)))
+    rotate-lt (s .args .n) (s .pre .one) (l .loop .turned) (turned-lt (s .args .n) (s .args .t1) (size s) (s .args .a) (s .args .b) (s .pre) (l .loop .product) (l .loop .turned) (l .loop .i) (l .loop .inv)) in
+    rw (r .rotated .ensures) (omega (arith, h, pow-mono (s .pre .most)))
 
 picked-requires : tie.Need-picked-requires Inv-loop μ-loop
 picked-requires c κs = mod-two-lt (c .before .before .before .before .before .before .args .a / 2 ^ (c .before .before .before .before .before .loop .i - 1))
@@ -129,14 +135,14 @@ loop-again c =
     let r = p .before in
     let l = r .before .before in
     let s = l .before in
-    turn (s .args .n) (s .pre .0) (s .pre .1) (s .args .t1) (size s) (s .pre .2) (s .args .a) (s .args .b) (s .pre .4) (l .loop .product) (l .loop .turned) (l .loop .i) (l .loop .inv) (r .before .loop-test .taken)
+    turn (s .args .n) (s .args .t1) (size s) (s .args .a) (s .args .b) (s .pre) (l .loop .product) (l .loop .turned) (l .loop .i) (l .loop .inv) (r .before .loop-test .taken)
     (r .rotated .result) (p .rotated2 .result) (c .picked .result) (m .sum .result) (r .rotated .ensures) (p .rotated2 .ensures) (m .sum .ensures) (c .picked .ensures)
 
 returns : tie.Need-returns Inv-loop μ-loop
 returns c =
     let l = c .before in
     let s = l .before in
-    done (s .args .n) (s .pre .0) (s .pre .1) (s .args .t1) (size s) (s .pre .2) (s .args .a) (s .args .b) (s .pre .4) (l .loop .product) (l .loop .turned) (l .loop .i) (l .loop .inv) (omega arith)
+    done (s .args .n) (s .args .t1) (size s) (s .args .a) (s .args .b) (s .pre) (l .loop .product) (l .loop .turned) (l .loop .i) (l .loop .inv) (omega arith)
 
 pub product-of-spec : {M : Type 1} → statement M
 product-of-spec =
