@@ -4,6 +4,7 @@
 --   a ⊕ b             the sum
 --   product a b       the product
 --   Degree a n        the degree of a is n; `degree a` computes it
+--   Element f n a     f has degree n, and a is an element: what functions ask of a modulus and an operand
 --   rem f n a         the remainder of a modulo f, of degree n
 --   mulMod f n a b    the product modulo f
 --   spread a          each coefficient of a moved from place i to place 2 * i
@@ -41,6 +42,11 @@ product a b = digits 0 (λ d r. d * b ⊕ r * 2) a
 pub record Degree (a n : ℕ) : Type 0 where
   pub low : 2 ^ n ≤ a
   pub high : a < 2 ^ (n + 1)
+
+-- "An element of the field of degree n is a number below 2^n": modulo any f of degree n
+pub record Element (f n a : ℕ) : Type 0 where
+  pub is-degree : Degree f n
+  pub below : a < 2 ^ n
 
 -- one less than the number of binary digits of a; 0 at the zero polynomial, which has no degree
 unfoldable pub degree : ℕ → ℕ

@@ -1,14 +1,13 @@
 // Multiplication modulo a polynomial, from the low coefficient of the second operand up. The multiples of the first are kept
 // at the top of the word, for `times_x`.
 ghost use mathlib.Core.Path.{_≡_};
-ghost use Prim.Native.Nat.{_^_, _<_};
-ghost use Rattle.gf2.specs.Poly.{mulMod, Degree};
+ghost use Rattle.gf2.specs.Poly.{mulMod, Element};
 use super::division::picked;
 use super::division::times_x;
 
 // The product of a and b modulo f, of degree n: at each coefficient of b, a times the power of x that stands there.
 pub fn multiply(f: u64, n: u32, a: u64, b: u64) -> u64
-    requires { ⌜ (n < 64) × Degree f n × (a < 2 ^ n) ⌝ }
+    requires { ⌜ Element f n a ⌝ }
     ensures { λ r. ⌜ r ≡ mulMod f n a b ⌝ }
 {
     // The top term of f leaves the word. For n = 0, where a shift by 64 is not allowed, a is 0 and may stay.

@@ -4,7 +4,7 @@
 ghost use mathlib.Core.Path.{_≡_};
 ghost use mathlib.Core.Logic.{_⊎_};
 ghost use Prim.Native.Nat.{_+_, _*_, _^_, _≤_, _<_};
-ghost use Rattle.gf2.specs.Poly.{_⊕_, rem, mulMod, Degree};
+ghost use Rattle.gf2.specs.Poly.{_⊕_, rem, mulMod, Element};
 ghost use Rattle.gf2.specs.Spread.{SpreadTable};
 use super::division::remainder;
 use super::division::times_x;
@@ -40,7 +40,7 @@ fn square_width(n: u32) -> u32
 
 // The square of a modulo f, of degree n.
 pub fn square(table: &[u16; 256], f: u64, n: u32, a: u64) -> u64
-    requires { ⌜ SpreadTable (now table) × (n < 64) × Degree f n × (a < 2 ^ n) ⌝ }
+    requires { ⌜ SpreadTable (now table) × Element f n a ⌝ }
     ensures { λ r. ⌜ r ≡ mulMod f n a a ⌝ }
 {
     // The top term of f leaves the word. For n = 0, where a shift by 64 is not allowed, all remainders are 0.

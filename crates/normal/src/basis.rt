@@ -1,8 +1,8 @@
 // A basis: the three matrices of a normal element, held by value (document 01, "What a sheet holds").
 ghost use mathlib.Core.Path.{_≡_};
-ghost use Prim.Native.Nat.{_^_, _≤_, _<_};
+ghost use Prim.Native.Nat.{_≤_};
 ghost use lib.ListN.{getD};
-ghost use Rattle.gf2.specs.Poly.{mulMod, Degree};
+ghost use Rattle.gf2.specs.Poly.{mulMod, Degree, Element};
 ghost use Rattle.gf2.specs.Spread.{SpreadTable};
 ghost use Rattle.gf2.specs.Limit.{limit};
 ghost use Rattle.rows.specs.Rows.{comb, Matrix};
@@ -46,7 +46,7 @@ fn table_of(f: u64, n: u32, conjugates: [u64; LIMIT], inverse: [u64; LIMIT]) -> 
 
 // The basis of a, or its dependency.
 pub fn build_basis(spread: &[u16; 256], f: u64, n: u32, a: u64) -> Built
-    requires { ⌜ SpreadTable (now spread) × (n ≤ limit) × Degree f n × (a < 2 ^ n) ⌝ }
+    requires { ⌜ SpreadTable (now spread) × (n ≤ limit) × Element f n a ⌝ }
     ensures { λ r. ⌜ r ≡ builtOf f n a ⌝ }
 {
     let conjugates = conjugates_of(spread, f, n, a);

@@ -40,7 +40,7 @@ turn-modulus-requires c κs = search needs
 multiply-requires : tie.Need-multiply-requires
 multiply-requires c κs =
     let s = c .before .before .before .before .before .before in
-    (omega (arith, s .pre .1), rw (c .turn-modulus .ensures) (turn-degree (s .args .n) (omega (arith, s .pre .0))), below (c .before))
+    record { is-degree = rw (c .turn-modulus .ensures) (turn-degree (s .args .n) (omega (arith, s .pre .0))); below = below (c .before) }
 
 returns-2 : tie.Need-returns-2
 returns-2 c = (below (c .before .before .before), sym (tested (c .before)) ∙ c .if2 .taken)

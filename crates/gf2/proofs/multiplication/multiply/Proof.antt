@@ -10,6 +10,7 @@ use lib.Pow.{pow-pos}
 use Rattle.gf2.specs.Poly.{_⊕_, mulMod}
 use Rattle.gf2.specs.Numbers.{mod-two-lt}
 use Rattle.gf2.specs.Sum.{zero-⊕, ⊕-zero}
+use Rattle.gf2.specs.Degrees.{degree-lt}
 use Rattle.gf2.specs.Remainder.{mulMod-zero-r}
 use Rattle.gf2.specs.Steps.{mulMod-turn}
 use Rattle.gf2.specs.Raised.{raised-degree, mulMod-lowered}
@@ -30,8 +31,12 @@ added sum p x e = ap (bitXor sum) e
 done : (f n sum shifted rest m : ℕ) → rest ≡ 0 → sum ⊕ mulMod f n shifted rest ≡ m → sum ≡ m
 done f n sum shifted rest m e h = sym (⊕-zero sum) ∙ ap (λ (x : ℕ). sum ⊕ x) (sym (mulMod-zero-r f n shifted) ∙ ap (mulMod f n shifted) (sym e)) ∙ h
 
+-- f stands in a word
+word : (c : tie.Start Inv-loop μ-loop) → c .args .n < 64
+word c = degree-lt (c .args .f) (c .args .n) 64 (c .pre .is-degree) (c .fits .f .fits)
+
 sub-k : tie.Need-sub-k Inv-loop μ-loop
-sub-k c = search needs
+sub-k c = omega (arith, word c)
 
 cast-low : tie.Need-cast-low Inv-loop μ-loop
 cast-low c = search needs
@@ -74,7 +79,7 @@ returns : tie.Need-returns Inv-loop μ-loop
 returns c =
     let l = c .before in
     let s = l .before in
-    mulMod-lowered (s .args .f) (s .args .n) (s .args .a) (s .args .b) (s .pre .1) (s .pre .2) (s .pre .0) _ (l .loop .sum) refl
+    mulMod-lowered (s .args .f) (s .args .n) (s .args .a) (s .args .b) (s .pre .is-degree) (s .pre .below) (word s) _ (l .loop .sum) refl
     (done _ 64 (l .loop .sum) (l .loop .shifted) (l .loop .rest) _ (c .loop-test .left) (l .loop .inv .2))
 
 pub multiply-spec : {M : Type 1} → statement M

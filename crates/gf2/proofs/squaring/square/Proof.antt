@@ -8,6 +8,7 @@ use borrow.Author.Needs.{needs}
 use lib.Pow.{pow-pos, pow-mono}
 use Rattle.gf2.specs.Poly.{product, rem, mulMod, Degree}
 use Rattle.gf2.specs.Product.{product-zero-l}
+use Rattle.gf2.specs.Degrees.{degree-lt}
 use Rattle.gf2.specs.Remainder.{rem-zero}
 use Rattle.gf2.specs.Steps.{square-turn}
 use Rattle.gf2.specs.Raised.{raised-degree, rem-raised-first, square-fits}
@@ -32,8 +33,12 @@ done : (f n a k r : ℕ) → Degree f n → n < 64 → k ≡ (64 - n) % 64 → r
 unfolding mulMod
 done f n a k r deg small e h = ap (rem f n) h ∙ rem-raised-first f n deg small k (product a a) e
 
+-- f stands in a word
+word : (c : tie.Start Inv-loop μ-loop) → c .args .n < 64
+word c = degree-lt (c .args .f) (c .args .n) 64 (c .pre .1 .is-degree) (c .fits .f .fits)
+
 sub-low : tie.Need-sub-low Inv-loop μ-loop
-sub-low c = search needs
+sub-low c = omega (arith, word c)
 
 cast-low : tie.Need-cast-low Inv-loop μ-loop
 cast-low c = search needs
@@ -42,13 +47,13 @@ shl-low : tie.Need-shl-low Inv-loop μ-loop
 shl-low c = search needs
 
 add-k : tie.Need-add-k Inv-loop μ-loop
-add-k c = search needs
+add-k c = omega (arith, word c)
 
 mul-k : tie.Need-mul-k Inv-loop μ-loop
-mul-k c = search needs
+mul-k c = omega (arith, word c)
 
 loop-holds : tie.Need-loop-holds Inv-loop μ-loop
-loop-holds c = (omega (arith, c .pre .1), omega arith, start _ (c .args .n) (c .args .a) _ (omega arith) (c .pre .3))
+loop-holds c = (omega (arith, word c), omega arith, start _ (c .args .n) (c .args .a) _ (omega arith) (c .pre .1 .below))
 
 sub-k : tie.Need-sub-k Inv-loop μ-loop
 sub-k c = omega arith
@@ -100,15 +105,15 @@ remainder-requires c κs =
     let l = c .before in
     let s = l .before .before in (
       c .square-width .ensures .0,
-      s .pre .2,
-      square-fits _ (s .args .n) (s .args .a) (c .square-width .result) (l .before .loop .r) (mod-lt _ (pow-pos 64)) (s .pre .3) (c .square-width .ensures .1) (c .square-width .ensures .0) (squared l),
+      s .pre .1 .is-degree,
+      square-fits _ (s .args .n) (s .args .a) (c .square-width .result) (l .before .loop .r) (mod-lt _ (pow-pos 64)) (s .pre .1 .below) (c .square-width .ensures .1) (c .square-width .ensures .0) (squared l),
     )
 
 returns : tie.Need-returns Inv-loop μ-loop
 returns c =
     let l = c .before .before in
     let s = l .before .before in
-    c .remainder .ensures ∙ done (s .args .f) (s .args .n) (s .args .a) _ (l .before .loop .r) (s .pre .2) (s .pre .1) refl (squared l)
+    c .remainder .ensures ∙ done (s .args .f) (s .args .n) (s .args .a) _ (l .before .loop .r) (s .pre .1 .is-degree) (word s) refl (squared l)
 
 pub square-spec : {M : Type 1} → statement M
 square-spec =

@@ -40,9 +40,10 @@ square-requires c κs =
     let l = c .before in
     let s = l .before in (
       s .pre .0,
-      omega (arith, s .pre .1),
-      s .pre .2,
-      rw (l .loop .inv .2) (squared-lt (s .args .f) (s .args .n) (s .pre .2) (l .loop .i) (s .args .a) (s .pre .3)),
+      record {
+        is-degree = s .pre .2 .is-degree;
+        below = rw (l .loop .inv .2) (squared-lt (s .args .f) (s .args .n) (s .pre .2 .is-degree) (l .loop .i) (s .args .a) (s .pre .2 .below));
+      },
     )
 
 add-i : tie.Need-add-i Inv-loop μ-loop
@@ -57,7 +58,7 @@ loop-again c =
     let s = l .before in (
       omega arith,
       filled-turn (l .loop .rows) (l .loop .i) (l .loop .y) (λ j. squared (s .args .f) (s .args .n) j (s .args .a)) (omega (arith, s .pre .1)) (l .loop .inv .2) (l .loop .inv .1),
-      squared-turn (s .args .f) (s .args .n) (s .pre .2) (l .loop .i) (s .args .a) (l .loop .y) (c .square .result) (l .loop .inv .2) (c .square .ensures),
+      squared-turn (s .args .f) (s .args .n) (s .pre .2 .is-degree) (l .loop .i) (s .args .a) (l .loop .y) (c .square .result) (l .loop .inv .2) (c .square .ensures),
     )
 
 returns : tie.Need-returns Inv-loop μ-loop
