@@ -6,7 +6,7 @@
 --   strays f n        refusal 3
 --   Accepted f        none of them; `check-accepts` (in `Checked`): the check is done exactly for these
 --   InRange f n       the degree of f is n, 2 to the limit: what is left where refusal 1 is not given
---   Element f n a     the same, and a is an element: what is left where refusal 4 is not given either
+--   Operand f n a     the same, and a is an element: what is left where refusal 4 is not given either
 --
 -- Assumes nothing.
 use mathlib.Core.Path.{_≡_}
@@ -41,6 +41,6 @@ pub record InRange (f n : ℕ) : Type 0 where
   pub is-degree : Degree f n
 
 -- "An element of the field of degree n is a number below 2^n."
-pub record Element (f n a : ℕ) : Type 0 where
+pub record Operand (f n a : ℕ) : Type 0 where
   pub in-range : InRange f n
   pub small : a < 2 ^ n

@@ -16,7 +16,7 @@ use Rattle.gf2.specs.Degrees.{degree-is, degree-zero}
 use Rattle.gf2.specs.Limit.{limit}
 use Rattle.refusals.specs.Verdicts.{clear, refuse, firstOf}
 use Rattle.refusals.specs.Orders.{first-applies, first-passes, first-none, first-clear}
-use Rattle.field.specs.Accepted.{degreeOutside, divided, strays, InRange, Element}
+use Rattle.field.specs.Accepted.{degreeOutside, divided, strays, InRange, Operand}
 use Rattle.field.specs.Refusals.{tooLarge, anyTooLarge, degreeRule, elementRule, divisorRule, returnRule, elementOrder, operandOrder, fieldOrder}
 
 -- ---- condition 1
@@ -96,14 +96,14 @@ operand-twice f a = rw (any-twice (degree f) a)
 
 -- what conditions 1 and 4 leave
 module _ (f n a : ℕ) (en : n ≡ degree f) where
-  pub operands-judged : (b : ℕ) → firstOf (operandOrder f (a ∷ b ∷ [])) ≡ clear → Element f n a × Element f n b
+  pub operands-judged : (b : ℕ) → firstOf (operandOrder f (a ∷ b ∷ [])) ≡ clear → Operand f n a × Operand f n b
   operands-judged b e =
       let s = first-clear (degreeRule f) (elementOrder (degree f) (a ∷ b ∷ [])) e in
       let r : InRange f n = in-range f n en (s .0) in
       let p = both-small (degree f) a b (s .1) in
       (record { in-range = r; small = rw en (p .0) }, record { in-range = r; small = rw en (p .1) })
 
-  pub operand-judged : firstOf (operandOrder f (a ∷ [])) ≡ clear → Element f n a
+  pub operand-judged : firstOf (operandOrder f (a ∷ [])) ≡ clear → Operand f n a
   operand-judged e = operands-judged a (operand-twice f a ∙ e) .0
 
 -- ---- conditions 2 and 3

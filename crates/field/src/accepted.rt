@@ -6,7 +6,7 @@ ghost use Rattle.gf2.specs.Spread.{SpreadTable};
 ghost use Rattle.refusals.specs.Verdicts.{firstOf};
 ghost use Rattle.refusals.specs.Answers.{checkedOf};
 ghost use Rattle.field.specs.Field.{squared};
-ghost use Rattle.field.specs.Accepted.{degreeOutside, divided, InRange, Element};
+ghost use Rattle.field.specs.Accepted.{degreeOutside, divided, InRange, Operand};
 ghost use Rattle.field.specs.Refusals.{fieldOrder, tooLarge};
 use gf2::LIMIT;
 use gf2::degree_of;
@@ -33,7 +33,7 @@ pub fn too_large(n: u32, a: u64) -> bool
 
 // a squared k times in a row.
 fn squared_times(table: &[u16; 256], f: u64, n: u32, k: u32, a: u64) -> u64
-    requires { ⌜ SpreadTable (now table) × Element f n a ⌝ }
+    requires { ⌜ SpreadTable (now table) × Operand f n a ⌝ }
     ensures { λ r. ⌜ r ≡ squared f n k a ⌝ }
 {
     let mut y = a;

@@ -4,7 +4,7 @@ ghost use Rattle.gf2.specs.Poly.{mulMod};
 ghost use Rattle.gf2.specs.Spread.{SpreadTable};
 ghost use Rattle.refusals.specs.Answers.{valueReport, checkedReport};
 ghost use Rattle.field.specs.Field.{trace};
-ghost use Rattle.field.specs.Accepted.{Element};
+ghost use Rattle.field.specs.Accepted.{Operand};
 ghost use Rattle.field.specs.Answers.{multiplyAnswer, multiplyReport, squareAnswer, squareReport, traceAnswer, traceReport, checkAnswer, checkReport};
 use super::accepted::degree_outside;
 use super::accepted::field_verdict;
@@ -31,7 +31,7 @@ pub fn multiply(f: u64, a: u64, b: u64) -> Value
 
 // The square of an element, by the table of spreads.
 fn squared(f: u64, n: u32, a: u64) -> u64
-    requires { ⌜ Element f n a ⌝ }
+    requires { ⌜ Operand f n a ⌝ }
     ensures { λ r. ⌜ r ≡ mulMod f n a a ⌝ }
 {
     let table = spread_table();
@@ -52,7 +52,7 @@ pub fn square(f: u64, a: u64) -> Value
 
 // The sum of the n conjugates of a.
 fn conjugates_sum(table: &[u16; 256], f: u64, n: u32, a: u64) -> u64
-    requires { ⌜ SpreadTable (now table) × Element f n a ⌝ }
+    requires { ⌜ SpreadTable (now table) × Operand f n a ⌝ }
     ensures { λ r. ⌜ r ≡ trace f n a ⌝ }
 {
     let mut sum: u64 = 0;

@@ -1,4 +1,5 @@
--- Laws of the degree: every polynomial but 0 has one, and one only; that of a product is the sum of its factors' degrees.
+-- Laws of the degree: every polynomial but 0 has one, and one only; that of a product is the sum of its factors' degrees; bounds of a
+-- product and of a spread.
 -- Assumes nothing.
 use mathlib.Core.Path.{_≡_, sym, ap, _∙_}
 use mathlib.Core.Logic.{⊎-elim}
@@ -7,10 +8,10 @@ use native.Mathlib.Nat.{le-refl, zero-mul, one-mul, pow-suc, zero-add, suc-add, 
 use native.Mathlib.Omega.{arith}
 use lib.Arith.{bin-ind, lt-one}
 use lib.Pow.{pow-pos, pow-add, pow-mono, shl-lt}
-use Rattle.gf2.specs.Poly.{_⊕_, digits, product, degree, Degree}
+use Rattle.gf2.specs.Poly.{_⊕_, digits, product, degree, spread, Degree}
 use Rattle.gf2.specs.Numbers.{bitCases, order, mod-two-lt, pow-next}
 use Rattle.gf2.specs.Sum.{⊕-lt, ⊕-high, ⊕-low}
-use Rattle.gf2.specs.Product.{digits-zero, digits-pos, product-zero-l, product-one-l, product-step, product-⊕-l, product-shift-l}
+use Rattle.gf2.specs.Product.{digits-zero, digits-pos, product-zero-l, product-one-l, product-step, product-⊕-l, product-shift-l, product-square}
 
 -- ---- the degree exists
 
@@ -90,6 +91,9 @@ product-lt (suc i) j a b ha hb =
     let e : 2 ^ (suc i + j) ≡ 2 ^ (i + j) * 2 = rw (suc-add, pow-suc) in
     rw (product-step a b)
     (⊕-lt (suc i + j) (a % 2 * b) (product (a / 2) b * 2) (omega (arith, bit-mul-le (a % 2) b (mod-two-lt a))) (omega arith))
+
+pub spread-lt : (n a : ℕ) → a < 2 ^ n → spread a < 2 ^ (n + n)
+spread-lt n a h = rw (← product-square a) (product-lt n n a a h (omega arith))
 
 pub degree-product : (a b i j : ℕ) → Degree a i → Degree b j → Degree (product a b) (i + j)
 degree-product a b i j da db =

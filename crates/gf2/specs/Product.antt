@@ -158,7 +158,7 @@ pub spread-step : (a : ℕ) → spread a ≡ spread (a / 2) * 4 + a % 2
 unfolding spread
 spread-step a = digits-step 0 (λ d r. r * 4 + d) refl a
 
-spread-zero : spread 0 ≡ 0
+pub spread-zero : spread 0 ≡ 0
 unfolding spread
 spread-zero = digits-zero 0 (λ d r. r * 4 + d)
 
@@ -171,3 +171,7 @@ product-square =
     bin-ind (λ (m : ℕ). product m m ≡ spread m) (product-zero-l 0 ∙ sym spread-zero)
     (λ m ih. ap (λ (x : ℕ). product x x) (sym (div-add-mod' m 2)) ∙ product-square-parts (m / 2) 1 (m % 2) (mod-two-lt m)
     ∙ rw (ih, bit-square (m % 2) (mod-two-lt m)) (⊕-low (spread (m / 2)) 2 (m % 2) (omega arith) ∙ sym (spread-step m)))
+
+-- the spread of a number in two parts
+pub spread-parts : (a k b : ℕ) → b < 2 ^ k → spread (a * 2 ^ k + b) ≡ spread a * 2 ^ (k + k) ⊕ spread b
+spread-parts a k b h = rw (← product-square (a * 2 ^ k + b), ← product-square a, ← product-square b) (product-square-parts a k b h)

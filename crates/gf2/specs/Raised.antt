@@ -5,23 +5,22 @@
 --   times-x-raised                x times a modulo 2 ^ 64 + low: the coefficient that leaves the word is taken away with low
 --   rem-fits                      where a polynomial moved up still fits into the word, it is its own remainder
 --   rem-lowered, mulMod-lowered   f moved up is 2 ^ 64 + low, so a remainder or a product modulo that, moved down, is one modulo f
---   rem-appended                  what is reduced already, moved up by 16 places, and 16 coefficients behind it
+--   rem-appended                  what is moved up by 64 places and reduced, and 64 coefficients behind it
 --   rem-raised-first              what is reduced modulo f moved up still has its remainder modulo f
---   square-fits                   modulo f moved up, a square of n coefficients has no coefficient from 2 * n upward
 --
 -- Assumes nothing.
 use mathlib.Core.Path.{_≡_, refl, sym, ap, _∙_}
-use mathlib.Core.Logic.{_⊎_, inl, inr, ⊎-elim}
+use mathlib.Core.Logic.{⊎-elim}
 use Prim.Native.Nat.{ℕ, _+_, _-_, _*_, _/_, _%_, _^_, _≤_, _<_}
 use native.Mathlib.Nat.{zero-mul, one-mul}
 use native.Mathlib.Omega.{arith}
-use lib.Pow.{pow-mono, shl-lt, shl-exact, shl-shr}
+use lib.Pow.{shl-lt, shl-exact, shl-shr}
 use Rattle.gf2.specs.Poly.{_⊕_, product, reduce, rem, mulMod, Degree}
 use Rattle.gf2.specs.Numbers.{order}
 use Rattle.gf2.specs.Sum.{⊕-zero, ⊕-comm, ⊕-middle, ⊕-top, ⊕-shl}
 use Rattle.gf2.specs.Product.{product-shift-l, product-shift-r}
-use Rattle.gf2.specs.Degrees.{degree-shift, product-lt}
-use Rattle.gf2.specs.Remainder.{reduce-small, reduce-large, rem-small, rem-lt, rem-constant, rem-⊕, rem-quotient, rem-same, rem-unique, mulMod-zero-l}
+use Rattle.gf2.specs.Degrees.{degree-shift}
+use Rattle.gf2.specs.Remainder.{reduce-small, reduce-large, rem-small, rem-lt, rem-⊕, rem-quotient, rem-same, rem-unique, mulMod-zero-l}
 
 -- ---- moved up by k places
 
@@ -93,30 +92,17 @@ module _ (f n a b : ℕ) (deg : Degree f n) (h : a < 2 ^ n) where
       (λ (l : 1 ≤ n). lowered-by k (omega arith))
       (order n 1))
 
--- ---- left up: 16 coefficients more, and the remainder modulo f at last
+-- ---- left up: 64 coefficients more, and the remainder modulo f at last
 
--- m is r moved up by 16 places, reduced
-pub rem-appended : (g r m s : ℕ) → Degree g 64 → s < 2 ^ 16 → m ≡ rem g 64 (r * 2 ^ 16) → m ⊕ s ≡ rem g 64 (r * 2 ^ 16 ⊕ s)
-rem-appended g r m s deg h e = rw (e, rem-⊕ g 64 deg (r * 2 ^ 16) s, rem-small g 64 s (omega arith))
+-- m is a moved up by 64 places, reduced
+pub rem-appended : (g a m s : ℕ) → Degree g 64 → s < 2 ^ 64 → m ≡ rem g 64 (a * 2 ^ 64) → m ⊕ s ≡ rem g 64 (a * 2 ^ 64 ⊕ s)
+rem-appended g a m s deg h e = rw (e, rem-⊕ g 64 deg (a * 2 ^ 64) s, rem-small g 64 s h)
 
--- f moved up is a multiple of f; for n = 0, where nothing is moved, f is 1
-pub rem-raised-first : (f n : ℕ) → Degree f n → n < 64 → (k a : ℕ) → k ≡ (64 - n) % 64 → rem f n (rem (2 ^ 64 + f * 2 ^ k % 2 ^ 64) 64 a) ≡ rem f n a
-rem-raised-first f n deg small k a e =
-    ⊎-elim
-    (λ (l : n < 1). let z : n ≡ 0 = omega arith in rem-constant f n deg z _ ∙ sym (rem-constant f n deg z a))
-    (λ (l : 1 ≤ n).
-    let s : n + k ≡ 64 = omega arith in
+-- f moved up is a multiple of f
+pub rem-raised-first : (f n k a : ℕ) → Degree f n → n + k ≡ 64 → rem f n (rem (2 ^ 64 + f * 2 ^ k % 2 ^ 64) 64 a) ≡ rem f n a
+rem-raised-first f n k a deg s =
     let d : Degree (f * 2 ^ k) 64 = rw s at (degree-shift f n k deg) in
     let q = rem-quotient (f * 2 ^ k) 64 a in
     let m : product (q .0) (f * 2 ^ k) ≡ product (q .0 * 2 ^ k) f = product-shift-r (q .0) f k ∙ sym (product-shift-l (q .0) f k) in
     rw (top-falls (f * 2 ^ k) d)
-    (sym (ap (rem f n) (q .1 ∙ ap (λ (x : ℕ). x ⊕ rem (f * 2 ^ k) 64 a) m) ∙ rem-same f n deg (q .0 * 2 ^ k) (rem (f * 2 ^ k) 64 a))))
-    (order n 1)
-
-pub square-fits : (low n a width r : ℕ) → low < 2 ^ 64 → a < 2 ^ n → (width ≡ 64) ⊎ (width ≡ 2 * n) → width ≤ 64
-    → r ≡ rem (2 ^ 64 + low) 64 (product a a) → r < 2 ^ width
-square-fits low n a width r hl ha (inl e) hw p = rw (p, e) (rem-lt (2 ^ 64 + low) 64 (raised-degree low hl) (product a a))
-square-fits low n a width r hl ha (inr e) hw p =
-    let w : width ≡ n + n = omega arith in
-    let fits : product a a < 2 ^ width = rw w (product-lt n n a a ha (omega arith)) in
-    rw (p, rem-small (2 ^ 64 + low) 64 (product a a) (omega (arith, pow-mono hw))) fits
+    (sym (ap (rem f n) (q .1 ∙ ap (λ (x : ℕ). x ⊕ rem (f * 2 ^ k) 64 a) m) ∙ rem-same f n deg (q .0 * 2 ^ k) (rem (f * 2 ^ k) 64 a)))

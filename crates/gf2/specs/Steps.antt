@@ -1,4 +1,4 @@
--- One turn of each loop over coefficients, as laws on numbers: of the product, of the remainder, one more byte of a square.
+-- One turn of each loop over coefficients, as laws on numbers: of the product, of the remainder, one more byte of a spread.
 -- Assumes nothing.
 use mathlib.Core.Path.{_≡_, sym, ap, ap₂, _∙_}
 use mathlib.Core.Logic.{⊎-elim}
@@ -6,11 +6,11 @@ use Prim.Native.Nat.{ℕ, _+_, _-_, _*_, _/_, _%_, _^_, _≤_, _<_}
 use native.Mathlib.Nat.{zero-mul, one-mul, sub-add-cancel, mul-assoc}
 use native.Mathlib.Omega.{arith}
 use lib.Pow.{shr-shr, split}
-use Rattle.gf2.specs.Poly.{_⊕_, product, reduce, rem, mulMod, spread, Degree}
+use Rattle.gf2.specs.Poly.{_⊕_, reduce, rem, mulMod, spread, Degree}
 use Rattle.gf2.specs.Numbers.{bitCases, pow-next, mod-two-lt}
 use Rattle.gf2.specs.Sum.{⊕-lt, ⊕-assoc}
-use Rattle.gf2.specs.Product.{product-square, product-square-parts}
-use Rattle.gf2.specs.Remainder.{reduce-lt, rem-double, rem-shift, mulMod-step}
+use Rattle.gf2.specs.Product.{spread-parts}
+use Rattle.gf2.specs.Remainder.{reduce-lt, rem-double, mulMod-step}
 
 pub bit-mul-lt : (d x m : ℕ) → d < 2 → x < m → d * x < m
 bit-mul-lt d x m h l = ⊎-elim (λ (e : d ≡ 0). rw (e, zero-mul) (omega arith)) (λ (e : d ≡ 1). rw (e, one-mul) l) (bitCases d h)
@@ -35,19 +35,14 @@ module _ (f n : ℕ) (deg : Degree f n) where
   pub rem-turn : (y k r r′ : ℕ) → r ≡ rem f n (y * 2 ^ k) → r′ ≡ reduce f n (r * 2) → r′ ≡ rem f n (y * 2 ^ (k + 1))
   rem-turn y k r r′ p q = rw (q, p, pow-next, ← mul-assoc) (sym (rem-double f n deg (y * 2 ^ k)))
 
-  -- ---- one more byte of a square
+-- ---- one more byte of a spread
 
-  -- r is the square of what stands from k upward in a; the next byte's square is s
-  pub square-turn : (a k r s : ℕ) → 8 ≤ k → r ≡ rem f n (product (a / 2 ^ k) (a / 2 ^ k)) → s ≡ spread (a / 2 ^ (k - 8) % 256)
-      → rem f n (r * 2 ^ 16 ⊕ s) ≡ rem f n (product (a / 2 ^ (k - 8)) (a / 2 ^ (k - 8)))
-  square-turn a k r s h inv es =
-      let q : ℕ = a / 2 ^ (k - 8) in
-      let hi : ℕ = a / 2 ^ k in
-      let ek : k - 8 + 8 ≡ k = sub-add-cancel h in
-      let eh : q / 256 ≡ hi = shr-shr a (k - 8) 8 ∙ ap (λ (x : ℕ). a / 2 ^ x) ek in
-      let eq : hi * 256 + q % 256 ≡ q = ap (λ (x : ℕ). x * 256 + q % 256) (sym eh) ∙ split q 8 in
-      let lo : s ≡ product (q % 256) (q % 256) = es ∙ sym (product-square (q % 256)) in
-      ap₂ (λ (x y : ℕ). rem f n (x * 2 ^ 16 ⊕ y)) inv lo
-      ∙ rem-shift f n deg (product hi hi) 16 (product (q % 256) (q % 256))
-      ∙ ap (rem f n) (sym (product-square-parts hi 8 (q % 256) (omega arith)))
-      ∙ ap (λ (x : ℕ). rem f n (product x x)) eq
+-- sum is the spread of what stands from k upward in a; the next byte's is s
+pub spread-turn : (a k sum s : ℕ) → 8 ≤ k → sum ≡ spread (a / 2 ^ k) → s ≡ spread (a / 2 ^ (k - 8) % 256) → sum * 2 ^ 16 ⊕ s ≡ spread (a / 2 ^ (k - 8))
+spread-turn a k sum s h inv es =
+    let q : ℕ = a / 2 ^ (k - 8) in
+    let ek : k - 8 + 8 ≡ k = sub-add-cancel h in
+    let eh : a / 2 ^ k ≡ q / 256 = sym (shr-shr a (k - 8) 8 ∙ ap (λ (x : ℕ). a / 2 ^ x) ek) in
+    ap₂ (λ (x y : ℕ). x * 2 ^ 16 ⊕ y) (inv ∙ ap spread eh) es
+    ∙ sym (spread-parts (q / 256) 8 (q % 256) (omega arith))
+    ∙ ap spread (split q 8)

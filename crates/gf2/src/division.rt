@@ -1,4 +1,4 @@
-// The remainder modulo a polynomial, with two steps that products take too: `picked` and `times_x`.
+// The remainder modulo a polynomial, with the steps that products and squares take too: `picked`, `times_x` and `raised`.
 ghost use mathlib.Core.Path.{_≡_};
 ghost use Prim.Native.Nat.{_+_, _*_, _^_, _≤_, _<_};
 ghost use Rattle.gf2.specs.Poly.{reduce, rem, Degree};
@@ -19,9 +19,23 @@ pub fn times_x(low: u64, a: u64) -> u64
     (a << 1) ^ picked(a >> 63, low)
 }
 
-// The remainder modulo f, of degree n, of a polynomial y with no coefficient from width upward: a walk down over the
-// coefficients from width - 1 down to n, each taken away with f. f is moved up until its top term leaves the word, and y until
-// the coefficient whose turn it is stands highest in it.
+// x^up times y modulo x^64 + low, for a polynomial y with no coefficient from width upward. It is moved up at once as far as the word
+// goes, and then place by place.
+pub fn raised(low: u64, width: u32, y: u64, up: u32) -> u64
+    requires { ⌜ (1 ≤ width) × (width ≤ 64) × (64 ≤ width + up) × (y < 2 ^ width) ⌝ }
+    ensures { λ r. ⌜ r ≡ rem (2 ^ 64 + low) 64 (y * 2 ^ up) ⌝ }
+{
+    let mut k = 64 - width;
+    let mut r = y << k;
+    while k < up {
+        k += 1;
+        r = times_x(low, r);
+    }
+    r
+}
+
+// The remainder modulo f, of degree n, of a polynomial y with no coefficient from width upward: y moved up modulo f moved up, whose
+// top term leaves the word, and moved down again. So each coefficient from width - 1 down to n is taken away with f in its turn.
 pub fn remainder(f: u64, n: u32, width: u32, y: u64) -> u64
     requires { ⌜ (width ≤ 64) × Degree f n × (y < 2 ^ width) ⌝ }
     ensures { λ r. ⌜ r ≡ rem f n y ⌝ }
@@ -34,12 +48,5 @@ pub fn remainder(f: u64, n: u32, width: u32, y: u64) -> u64
         return y;
     }
     let up = 64 - n;
-    let low = f << up;
-    let mut k = 64 - width;
-    let mut r = y << k;
-    while k < up {
-        k += 1;
-        r = times_x(low, r);
-    }
-    r >> up
+    raised(f << up, width, y, up) >> up
 }

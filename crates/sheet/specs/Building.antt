@@ -12,7 +12,7 @@ use Rattle.refusals.specs.Orders.{first-applies, first-passes, first-clear, par
 use Rattle.refusals.specs.Answers.{left}
 use Rattle.refusals.specs.Answered.{answer-refused, left-refused}
 use Rattle.refusals.specs.declared.answer.Refusal.{Refusal}
-use Rattle.field.specs.Accepted.{Element}
+use Rattle.field.specs.Accepted.{Operand}
 use Rattle.field.specs.Refusals.{operandOrder, fieldOrder}
 use Rattle.field.specs.Orders.{operand-judged}
 use Rattle.sheet.specs.Record.{recordSize, sheetBytes}
@@ -34,7 +34,7 @@ module _ (f n room : ℕ) where
 
 -- ---- 1, 4, 6, 2 and 3
 
-pub room-judged : (f n a room : ℕ) → n ≡ degree f → firstOf (roomOrder f a room) ≡ clear → Element f n a × (recordSize * n ≤ room)
+pub room-judged : (f n a room : ℕ) → n ≡ degree f → firstOf (roomOrder f a room) ≡ clear → Operand f n a × (recordSize * n ≤ room)
 room-judged f n a room en e =
     let s = parts-clear (operandOrder f (a ∷ [])) (roomRule (degree f) room ∷ fieldOrder f) e in
     let r = first-clear (roomRule (degree f) room) (fieldOrder f) (s .1) in

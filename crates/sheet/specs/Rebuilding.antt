@@ -6,7 +6,7 @@ use Prim.Native.Nat.{ℕ, _+_, _*_, _%_, _^_, _≤_, _<_}
 use native.Mathlib.Omega.{arith}
 use lib.ListN.{length, drop, length-append}
 use lib.Pow.{pow-mono}
-use Rattle.field.specs.Accepted.{InRange, Element}
+use Rattle.field.specs.Accepted.{InRange, Operand}
 use Rattle.sheet.specs.Record.{recordSize, recordCount, tailIn, polynomialIn, tailOf, recordsTo, sheetBytes}
 use Rattle.sheet.specs.Orders.{rebuiltFrom, Shaped}
 use Rattle.sheet.specs.Answers.{summaryOf, summaryIn, atFront}
@@ -38,7 +38,7 @@ pub shaped-range : (sheet : List ℕ) → Shaped sheet → InRange (polynomialIn
 shaped-range sheet z = record { two = z .size .two; most = z .size .most; is-degree = polynomial-degree sheet z }
 
 module _ (sheet : List ℕ) (f n a : ℕ) (r : Rebuilt sheet f n a) where
-  pub rebuilt-element : Element f n a
+  pub rebuilt-element : Operand f n a
   rebuilt-element =
       let z = r .shaped in
       rw (r .polynomial, r .count, r .conjugate)

@@ -6,7 +6,7 @@ ghost use lib.ListN.{length, take};
 ghost use Rattle.gf2.specs.Spread.{SpreadTable};
 ghost use Rattle.refusals.specs.Verdicts.{firstOf};
 ghost use Rattle.refusals.specs.Answers.{checkedOf, left};
-ghost use Rattle.field.specs.Accepted.{InRange, Element};
+ghost use Rattle.field.specs.Accepted.{InRange, Operand};
 ghost use Rattle.field.specs.Refusals.{fieldOrder};
 ghost use Rattle.sheet.specs.Record.{recordSize, tailOf, recordsTo, sheetBytes};
 ghost use Rattle.sheet.specs.Orders.{roomRule, roomOrder, normalRule};
@@ -87,7 +87,7 @@ fn build_verdict(spread: &[u16; 256], f: u64, element: u64, room: usize) -> Chec
 
 // The sheet of f and the element, where the buffer has room for it: 5, or the sheet.
 fn build_judged(spread: &[u16; 256], f: u64, n: u32, element: u64, buffer: &mut [u8]) -> Issued
-    requires { ⌜ SpreadTable (now spread) × Element f n element × (recordSize * n ≤ length (now buffer)) ⌝ }
+    requires { ⌜ SpreadTable (now spread) × Operand f n element × (recordSize * n ≤ length (now buffer)) ⌝ }
     ensures answer { λ r. ⌜ r ≡ issuedOf (firstOf (normalRule f n element ∷ [])) (summaryOf f n element) ⌝ }
     ensures written { λ r. ⌜ now (buffer .exit) ≡ left (firstOf (normalRule f n element ∷ [])) (atFront (sheetBytes f n element) (now (buffer .entry))) (now (buffer .entry)) ⌝ }
 {
