@@ -14,6 +14,7 @@ use borrow.Author.Tests.{lt-ltb, le-ltb}
 use Rattle.gf2.specs.Numbers.{order}
 use Rattle.gf2.specs.Truth.{or-cases, or-right, bool-cases, not-both, not-true-false}
 use Rattle.gf2.specs.Bounded.{some, first, Found}
+
 -- ---- some number
 
 some-found : (k : ℕ) (t : ℕ → Bool) → some k t ≡ true → (d : ℕ) × (d < k) × (t d ≡ true)

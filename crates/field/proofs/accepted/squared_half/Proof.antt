@@ -61,9 +61,10 @@ square-requires c κs =
     let l = c .before in
     let s = l .before in (
       s .pre .0,
-      omega (arith, s .pre .1 .most),
-      s .pre .1 .is-degree,
-      y-lt (s .args .f) (s .args .n) (s .pre .1 .is-degree) (s .pre .1 .two) (l .loop .i) (l .loop .y) (c .loop-test .taken) (l .loop .inv .1),
+      record {
+        is-degree = s .pre .1 .is-degree;
+        below = y-lt (s .args .f) (s .args .n) (s .pre .1 .is-degree) (s .pre .1 .two) (l .loop .i) (l .loop .y) (c .loop-test .taken) (l .loop .inv .1);
+      },
     )
 
 greatest-common-requires : tie.Need-greatest-common-requires Inv-loop μ-loop

@@ -24,7 +24,7 @@ square-requires : tie.Need-square-requires Inv-loop μ-loop
 square-requires c κs =
     let l = c .before in
     let s = l .before in
-    (s .pre .0, omega (arith, s .pre .1 .in-range .most), s .pre .1 .in-range .is-degree, rw (l .loop .inv .1) (squared-lt (s .args .f) (s .args .n) (s .pre .1 .in-range .is-degree) (l .loop .done) (s .args .a) (s .pre .1 .small)))
+    (s .pre .0, record { is-degree = s .pre .1 .in-range .is-degree; below = rw (l .loop .inv .1) (squared-lt (s .args .f) (s .args .n) (s .pre .1 .in-range .is-degree) (l .loop .done) (s .args .a) (s .pre .1 .small)) })
 
 add-done : tie.Need-add-done Inv-loop μ-loop
 add-done c = omega arith

@@ -37,7 +37,7 @@ square-requires : tie.Need-square-requires Inv-loop μ-loop
 square-requires c κs =
     let l = c .before in
     let s = l .before in
-    (s .pre .0, omega (arith, s .pre .1 .in-range .most), s .pre .1 .in-range .is-degree, rw (l .loop .inv .2) (squared-lt (s .args .f) (s .args .n) (s .pre .1 .in-range .is-degree) (l .loop .i) (s .args .a) (s .pre .1 .small)))
+    (s .pre .0, record { is-degree = s .pre .1 .in-range .is-degree; below = rw (l .loop .inv .2) (squared-lt (s .args .f) (s .args .n) (s .pre .1 .in-range .is-degree) (l .loop .i) (s .args .a) (s .pre .1 .small)) })
 
 add-i : tie.Need-add-i Inv-loop μ-loop
 add-i c = omega arith

@@ -2,7 +2,6 @@
 -- Assumes nothing.
 use mathlib.Core.Path.{_≡_, ap, _∙_}
 use Prim.Native.Nat.{ℕ}
-use native.Mathlib.Omega.{arith}
 use borrow.Author.Needs.{needs}
 use Rattle.gf2.specs.Poly.{mulMod}
 use Rattle.refusals.specs.Verdicts.{firstOf}
@@ -32,7 +31,7 @@ multiply-requires c κs =
     let s = v .before in
     let e = operands-judged (s .args .f) (c .degree-of .result) (s .args .a) (c .degree-of .ensures) (s .args .b)
     (judged-clear (firstOf (multiplyOrder (s .args .f) (s .args .a) (s .args .b))) (v .operands-verdict .ensures) (c .before .enum-told .given .1)) .0 in
-    (omega (arith, e .in-range .most), e .in-range .is-degree, e .small)
+    record { is-degree = e .in-range .is-degree; below = e .small }
 
 returns : tie.Need-returns
 unfolding multiplyAnswer multiplyReport

@@ -14,7 +14,7 @@ use Rattle.sheet.proofs.building.build_judged.Tie as tie
 build-basis-requires : tie.Need-build-basis-requires
 build-basis-requires c κs =
     let e = c .before .pre .1 in
-    (c .before .pre .0, e .in-range .most, e .in-range .is-degree, e .small)
+    (c .before .pre .0, e .in-range .most, record { is-degree = e .in-range .is-degree; below = e .small })
 
 returns : tie.Need-returns
 returns c =

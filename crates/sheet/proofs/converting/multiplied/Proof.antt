@@ -29,7 +29,13 @@ product-of-requires c κs =
     let s = c .before .before in
     let sheet = s .args .sheet .now in
     let z = s .pre .0 in
-    (omega (arith, z .size .two), z .size .most, loaded-matrix (tableRowsIn sheet) (recordCount sheet) (c .load-rows .ensures) (table-matrix sheet z), s .pre .1, s .pre .2)
+    record {
+      one = omega (arith, z .size .two);
+      most = z .size .most;
+      table = loaded-matrix (tableRowsIn sheet) (recordCount sheet) (c .load-rows .ensures) (table-matrix sheet z);
+      left = s .pre .1;
+      right = s .pre .2;
+    }
 
 returns : tie.Need-returns
 unfolding throughTable

@@ -15,7 +15,7 @@ build-basis-requires : tie.Need-build-basis-requires
 build-basis-requires c κs =
     let s = c .before in
     let e = rebuilt-element (s .args .sheet .now) (s .args .f) (s .args .n) (s .args .element) (s .pre .1) in
-    (s .pre .0, e .in-range .most, e .in-range .is-degree, e .small)
+    (s .pre .0, e .in-range .most, record { is-degree = e .in-range .is-degree; below = e .small })
 
 returns : tie.Need-returns
 returns c =
