@@ -55,7 +55,7 @@ pub padded-take : (rows : List ℕ) (n : ℕ) → length rows ≡ n → take n (
 unfolding padded
 padded-take rows n e = take-at rows (replicate (limit - length rows) 0) n e
 
--- what has 46 entries, and those of rows
+-- what has as many entries as the limit says, and those of rows
 pub padded-ext : (rows m : List ℕ) → length rows ≤ limit → length m ≡ limit → ((i : ℕ) → getD m i 0 ≡ getD rows i 0) → m ≡ padded rows
 padded-ext rows m short size e =
     ext-getD 0 m (padded rows) (size ∙ sym (padded-length rows short)) (λ i l. e i ∙ sym (padded-at rows i))

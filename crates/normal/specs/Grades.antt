@@ -4,6 +4,7 @@
 --   gradeOf n c     the grade at degree n and complexity c
 --   gradeNumber g   the number of a grade
 --
+-- A basis gets its grade from `gradeOf` alone, and in code from `grade_of`: summaries and found records take it from there.
 -- Assumes nothing.
 use mathlib.Core.Bool.{Bool, not, cond, _&&_}
 use Prim.Native.Nat.{ℕ, _+_, _-_, _*_, _%_}

@@ -35,6 +35,7 @@ productBit n rows a b k =
 unfoldable pub tableProduct : (n : ℕ) (rows : List ℕ) (a b : ℕ) → ℕ
 tableProduct n rows a b = total n (λ k. productBit n rows a b k * 2 ^ k)
 
+-- "the n-bit number v": the operands are coordinates, and the rows are those of a sheet, as they stand
 pub record Factors (rows : List ℕ) (n a b : ℕ) : Type 0 where
   pub one : 1 ≤ n
   pub most : n ≤ limit
