@@ -35,7 +35,7 @@ power-requires c κs = omega (arith, c .before .before .pre .1 .most)
 square-requires : tie.Need-square-requires Inv-loop μ-loop
 square-requires c κs =
     let s = c .before .before .before in
-    (s .pre .0, omega (arith, s .pre .1 .most), s .pre .1 .is-degree, rw (c .power .ensures) (pow-lt (c .before .loop-test .taken)))
+    (s .pre .0, record { is-degree = s .pre .1 .is-degree; below = rw (c .power .ensures) (pow-lt (c .before .loop-test .taken)) })
 
 mul-rows : tie.Need-mul-rows Inv-loop μ-loop
 mul-rows c = omega (arith, c .before .before .before .before .pre .1 .most)

@@ -52,7 +52,7 @@ multiply-requires : tie.Need-multiply-requires Inv-loop μ-loop
 multiply-requires c κs =
     let l = c .before .before in
     let s = l .before .before in
-    (omega (arith, s .pre .of-field .most), s .pre .of-field .is-degree, rw (l .loop .inv .2) (rem-lt (s .args .f) (s .args .n) (s .pre .of-field .is-degree) _))
+    record { is-degree = s .pre .of-field .is-degree; below = rw (l .loop .inv .2) (rem-lt (s .args .f) (s .args .n) (s .pre .of-field .is-degree) _) }
 
 add-i : tie.Need-add-i Inv-loop μ-loop
 add-i c = search needs

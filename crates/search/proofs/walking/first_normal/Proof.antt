@@ -33,7 +33,7 @@ build-basis-requires : tie.Need-build-basis-requires Inv-loop μ-loop
 build-basis-requires c κs =
     let s = c .before .before .before in
     let of-field = s .pre .1 .of-modulus .of-field in
-    (s .pre .0, of-field .most, of-field .is-degree, element c)
+    (s .pre .0, of-field .most, record { is-degree = of-field .is-degree; below = element c })
 
 returns : tie.Need-returns Inv-loop μ-loop
 returns c =
