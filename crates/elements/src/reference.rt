@@ -7,7 +7,6 @@ ghost use lib.Dec.{eqb};
 ghost use lib.ListN.{length};
 ghost use Rattle.gf2.specs.Poly.{mulMod};
 ghost use Rattle.gf2.specs.Spread.{SpreadTable};
-ghost use Rattle.gf2.specs.Limit.{limit};
 ghost use Rattle.rows.specs.ByteSums.{bytes};
 ghost use Rattle.normal.specs.Normal.{normal, tableRows, complexity};
 ghost use Rattle.elements.specs.Fields.{ElementOf};
@@ -41,7 +40,7 @@ pub fn reference_sums(spread: &[u16; 256], f: u64, n: u32, b: u64, sums: &mut [u
 
 // What the ones of row i of a table count for, with those of row n - i, which are as many.
 fn both(n: u32, i: u32, ones: u32) -> u32
-    requires { ⌜ (i ≤ limit) × (ones ≤ 64) ⌝ }
+    requires { ⌜ (i < 64) × (ones ≤ 64) ⌝ }
     ensures { λ r. ⌜ (r ≡ cond (eqb (2 * i) n) ones (2 * ones)) × (r ≤ 128) ⌝ }
 {
     if 2 * i == n { ones } else { 2 * ones }

@@ -4,7 +4,6 @@
 // Modulo t^n + 1 multiplication by t rotates, so t divides everything, and factors t are taken out by rotating back.
 ghost use mathlib.Core.Path.{_≡_};
 ghost use Prim.Native.Nat.{_+_, _^_, _≤_, _<_};
-ghost use Rattle.gf2.specs.Limit.{limit};
 ghost use Rattle.elements.specs.Units.{Witnesses};
 use field::too_large;
 use gf2::multiply;
@@ -26,7 +25,7 @@ struct Pair {
 
 // t^n + 1.
 pub fn turn_modulus(n: u32) -> u64
-    requires { ⌜ n ≤ limit ⌝ }
+    requires { ⌜ n < 64 ⌝ }
     ensures { λ r. ⌜ r ≡ 2 ^ n + 1 ⌝ }
 {
     (1u64 << n) + 1
@@ -39,7 +38,7 @@ fn chosen(test: bool, yes: u64, no: u64) -> u64 {
 
 // x over t^k.
 fn turned_back(n: u32, k: u32, x: u64) -> u64
-    requires { ⌜ n ≤ limit ⌝ }
+    requires { ⌜ n < 64 ⌝ }
 {
     let down = k % 64;
     let mask = std::num::wrapping_sub_u64(1u64 << n, 1);
@@ -48,7 +47,7 @@ fn turned_back(n: u32, k: u32, x: u64) -> u64
 
 // The factors t are taken out of the rest, and the smaller one out of the larger.
 fn subtracted(n: u32, p: Pair) -> Pair
-    requires { ⌜ n ≤ limit ⌝ }
+    requires { ⌜ n < 64 ⌝ }
 {
     let k = u64::trailing_zeros(p.rest);
     let odd = p.rest >> k % 64;
@@ -65,7 +64,7 @@ fn subtracted(n: u32, p: Pair) -> Pair
 // The greatest common divisor of t^n + 1 and v, up to factors t, with what v is multiplied by to give it; and beside it 0, with what v is
 // multiplied by to give 0. Each turn takes at least one from the sum of the two degrees.
 fn common_with(n: u32, v: u64) -> Pair
-    requires { ⌜ n ≤ limit ⌝ }
+    requires { ⌜ n < 64 ⌝ }
 {
     let mut p = Pair {
         first: turn_modulus(n),
@@ -86,7 +85,7 @@ fn common_with(n: u32, v: u64) -> Pair
 
 // Whether v has an inverse modulo t^n + 1.
 pub fn unit_of(n: u32, v: u64) -> Witness
-    requires { ⌜ (2 ≤ n) × (n ≤ limit) × (v < 2 ^ n) ⌝ }
+    requires { ⌜ (2 ≤ n) × (n < 64) × (v < 2 ^ n) ⌝ }
     ensures { λ r. ⌜ Witnesses n v r ⌝ }
 {
     let p = common_with(n, v);

@@ -16,7 +16,7 @@ pub struct Wide {
 
 // The products of a by the numbers below 16, as sums of those by x^0 to x^3.
 pub fn multiples(f: u64, n: u32, a: u64) -> [u64; 16]
-    requires { ⌜ (n ≤ roomy) × Degree f n × (a < 2 ^ n) ⌝ }
+    requires { ⌜ (n < 64) × Degree f n × (a < 2 ^ n) ⌝ }
     ensures { λ r. ⌜ r ≡ multiplesOf f n a ⌝ }
 {
     let b = multiply(f, n, a, 2);

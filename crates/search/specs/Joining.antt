@@ -20,7 +20,8 @@ use Rattle.elements.specs.Decided.{Decides}
 use Rattle.elements.specs.declared.deciding.Decided.{Decided}
 use Rattle.elements.specs.declared.deciding.Decided.the-variants as decided
 use Rattle.search.specs.Search.{leader, complexityAt, foundBy, better, joined, candidateOf, countOf}
-use Rattle.search.specs.Joined.{Precedes, precedes-means, before, better-left, joined-nothing}
+use Rattle.search.specs.Preceding.{Precedes, precedes-means}
+use Rattle.search.specs.Joined.{before, better-left, joined-nothing}
 use Rattle.search.specs.Walks.{candidate-is, candidate-none, normal-leader, not-normal}
 use Rattle.search.specs.declared.answer.Best.{Best}
 use Rattle.search.specs.declared.answer.Search.{Search}

@@ -2,6 +2,7 @@
 pub mod Search
 pub mod Answers
 pub mod Leaders
+pub mod Preceding
 pub mod Joined
 pub mod Walks
 pub mod Joining

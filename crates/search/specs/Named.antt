@@ -14,7 +14,8 @@ use Rattle.gf2.specs.Numbers.{order}
 use Rattle.gf2.specs.Truth.{bool-cases, not-both, not-true-false}
 use Rattle.normal.specs.declared.grade.Grade.{Grade}
 use Rattle.search.specs.Search.{normalLeader, complexityAt, gradeAt, foundBy, alone, precedes, withCount, joined, candidateOf, walked, ranged, Answered, nothing, found, countOf, counted, Named}
-use Rattle.search.specs.Joined.{not-precedes, precedes-trans, precedes-self, before, better-right, better-left, joined-nothing}
+use Rattle.search.specs.Preceding.{not-precedes, precedes-trans, precedes-self}
+use Rattle.search.specs.Joined.{before, better-right, better-left, joined-nothing}
 use Rattle.search.specs.declared.answer.Best.{Best}
 use Rattle.search.specs.declared.answer.Search.{Search}
 use Rattle.search.specs.declared.answer.Search.the-variants.{Nothing, Found}

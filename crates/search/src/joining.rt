@@ -10,7 +10,7 @@ use super::answer::Search;
 use elements::Decided;
 use normal::grade_of;
 
-// The found record of the normal leader a, whose table has so many ones. No other place makes one.
+// The found record of the normal leader a, whose table has so many ones. No other place makes one of an element.
 fn found_by(f: u64, n: u32, a: u64, ones: u32) -> Best
     requires { ⌜ ElementOf f n a ⌝ }
     ensures { λ r. ⌜ r ≡ foundBy f n a ones ⌝ }

@@ -2,6 +2,7 @@
 -- Assumes nothing.
 use mathlib.Core.Path.{_≡_}
 use Prim.Native.Nat.{_+_, _^_, _<_}
+use native.Mathlib.Omega.{arith}
 use borrow.Author.Needs.{needs}
 use Rattle.gf2.specs.Poly.{mulMod}
 use Rattle.elements.specs.Reference.{through}
@@ -17,7 +18,7 @@ unit-of-requires c κs =
     let s = c .before in
     let m = s .args .m in
     let ref = s .pre .0 .reference in
-    (ref .of-field .two, ref .of-field .most, rw (c .sum-by-bytes .ensures) (through-lt (m .f) (m .n) (s .args .sums .now) ref (s .args .y) (s .pre .1)))
+    (ref .of-field .two, omega (arith, ref .of-field .most), rw (c .sum-by-bytes .ensures) (through-lt (m .f) (m .n) (s .args .sums .now) ref (s .args .y) (s .pre .1)))
 
 enum-told : tie.Need-enum-told
 enum-told c = search needs

@@ -28,17 +28,17 @@ abbrev μ-loop : tie.MeasureT-loop
 multiples-requires : tie.Need-multiples-requires Inv-loop μ-loop
 multiples-requires c κs =
     let of-field = c .pre .0 .reference .of-field in
-    (limit-roomy (c .args .m .n) (of-field .most), of-field .is-degree, c .pre .1)
+    (omega (arith, of-field .most), of-field .is-degree, c .pre .1)
 
 turn-modulus-requires : tie.Need-turn-modulus-requires Inv-loop μ-loop
-turn-modulus-requires c κs = c .before .pre .0 .reference .of-field .most
+turn-modulus-requires c κs = omega (arith, c .before .pre .0 .reference .of-field .most)
 
 multiples-requires-2 : tie.Need-multiples-requires-2 Inv-loop μ-loop
 multiples-requires-2 c κs =
     let s = c .before .before in
     let n = s .args .m .n in
     let of-field = s .pre .0 .reference .of-field in
-    (limit-roomy n (of-field .most), rw (c .turn-modulus .ensures) (turn-degree n (omega (arith, of-field .two))), s .pre .2 .0)
+    (omega (arith, of-field .most), rw (c .turn-modulus .ensures) (turn-degree n (omega (arith, of-field .two))), s .pre .2 .0)
 
 loop-holds : tie.Need-loop-holds Inv-loop μ-loop
 loop-holds c =

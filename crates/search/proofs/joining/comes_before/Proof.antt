@@ -1,7 +1,7 @@
 -- `search::joining::comes_before` meets its contract: its test is the definition's.
 -- Assumes nothing.
 use mathlib.Core.Path.{sym}
-use Rattle.search.specs.Joined.{precedes-tie, precedes-apart}
+use Rattle.search.specs.Preceding.{precedes-tie, precedes-apart}
 use Rattle.search.proofs.joining.comes_before.Statement.{statement}
 use Rattle.search.proofs.joining.comes_before.Tie as tie
 

@@ -23,8 +23,7 @@ found-by-requires-2 c κs = search needs
 better-of-requires : tie.Need-better-of-requires
 better-of-requires c κs =
     let k = c .before .before in
-    let s = k .before .before in
-    counts-fit (s .args .f) (s .args .n) (s .args .a) (s .args .ones) (s .args .held) _ (k .held2 .given .1) _ (c .found-by2 .ensures) (s .pre .1)
+    counts-fit _ _ _ _ _ _ (k .held2 .given .1) _ (c .found-by2 .ensures) (k .before .before .pre .1)
 
 returns : tie.Need-returns
 returns c =

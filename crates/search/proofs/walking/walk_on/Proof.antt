@@ -43,7 +43,7 @@ element i = omega (arith, i .before .before .before .pre .1 .elements, i .loop-t
 join-next-requires : tie.Need-join-next-requires Inv-loop μ-loop
 join-next-requires c κs =
     let l = c .before in
-    (l .before .before .pre .0, element c, l .loop .inv .2 (c .loop-test .taken), l .loop .inv .3)
+    (l .before .before .pre .0, element c, l .loop .inv .2 (omega (arith, c .loop-test .taken)), l .loop .inv .3)
 
 add-next-leader : tie.Need-add-next-leader Inv-loop μ-loop
 add-next-leader c =
