@@ -13,8 +13,9 @@ use Rattle.refusals.specs.Orders.{first-applies, first-passes, first-clear, par
 use Rattle.refusals.specs.Answers.{answerOf}
 use Rattle.field.specs.Accepted.{degreeOutside, Accepted}
 use Rattle.field.specs.Refusals.{tooLarge, degreeRule, operandOrder, fieldOrder}
-use Rattle.field.specs.Orders.{operand-inside, element-large, none-large, operands-judged}
+use Rattle.field.specs.Orders.{in-range, operand-inside, element-large, none-large, operands-judged}
 use Rattle.field.specs.Checked.{field-accepts, accepted-irreducible, accepted-returns}
+use Rattle.elements.specs.Fields.{FieldOf}
 use Rattle.search.specs.Answers.{rangeRule, searchOrder, searchOf, caseReport, reportOf}
 use Rattle.search.specs.Begun.{RangeOf}
 use Rattle.search.specs.declared.answer.Search.{Search}
@@ -59,23 +60,26 @@ module _ (f first last : ℕ) where
 
 -- ---- what the order leaves where none of its conditions applies
 
+-- conditions 1, 2 and 3 leave a field
+pub clear-field : (f n : ℕ) → n ≡ degree f → degreeOutside f ≡ false → firstOf (fieldOrder f) ≡ clear → FieldOf f n
+clear-field f n en inside e =
+    let accepted : Accepted f = field-accepts f inside .0 e in
+    let d = in-range f n en inside in
+    record {
+      two = d .two;
+      most = d .most;
+      is-degree = d .is-degree;
+      irreducible = accepted-irreducible f accepted;
+      returns = rw en (accepted-returns f accepted);
+    }
+
 pub clear-range : (f n first last : ℕ) → n ≡ degree f → firstOf (searchOrder f first last) ≡ clear → RangeOf f n first last
 clear-range f n first last en e =
     let s = parts-clear (operandOrder f (first ∷ last ∷ [])) (rangeRule first last ∷ fieldOrder f) e in
     let ends = operands-judged f n first en last (s .0) in
     let range = first-clear (rangeRule first last) (fieldOrder f) (s .1) in
-    let one = first-clear (degreeRule f) _ e in
-    let accepted : Accepted f = field-accepts f (one .0) .0 (range .1) in
-    let d = ends .1 .in-range in
     record {
-      of-field =
-          record {
-            two = d .two;
-            most = d .most;
-            is-degree = d .is-degree;
-            irreducible = accepted-irreducible f accepted;
-            returns = rw en (accepted-returns f accepted);
-          };
+      of-field = clear-field f n en (first-clear (degreeRule f) _ e .0) (range .1);
       ordered = ltb-false last first (range .0);
       elements = ends .1 .small;
     }
