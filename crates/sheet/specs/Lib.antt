@@ -15,3 +15,8 @@ pub mod Reading
 pub mod Rebuilding
 pub mod Columns
 pub mod Written
+pub mod Sheets
+pub mod Issuing
+pub mod Held
+pub mod Through
+pub mod Issued
