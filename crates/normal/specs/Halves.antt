@@ -67,14 +67,14 @@ module _ (n : ℕ) (pos : 1 ≤ n) where
 
 -- ---- sums
 
-total-last : (k : ℕ) (g : ℕ → ℕ) → total (suc k) g ≡ total k g + g k
+pub total-last : (k : ℕ) (g : ℕ → ℕ) → total (suc k) g ≡ total k g + g k
 unfolding total
 total-last zero g = omega arith
 total-last (suc k) g =
     let ih : total (suc k) (λ i. g (suc i)) ≡ total k (λ i. g (suc i)) + g (suc k) = total-last k (λ i. g (suc i)) in
     omega arith
 
-complexity-total : (rows : List ℕ) → complexity rows ≡ total (length rows) (λ i. ones (getD rows i 0))
+pub complexity-total : (rows : List ℕ) → complexity rows ≡ total (length rows) (λ i. ones (getD rows i 0))
 unfolding complexity total
 complexity-total [] = refl
 complexity-total (r ∷ rs) = ap (λ (x : ℕ). ones r + x) (complexity-total rs)

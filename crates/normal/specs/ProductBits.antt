@@ -68,7 +68,7 @@ unfolding total xorSum
 total-odd zero g = refl
 total-odd (suc k) g = plus-odd (g 0) (total k (λ i. g (suc i))) ∙ ap (λ (x : ℕ). g 0 % 2 ⊕ x) (total-odd k (λ i. g (suc i)))
 
-total-ext : (m : ℕ) (g h : ℕ → ℕ) → ((i : ℕ) → i < m → g i ≡ h i) → total m g ≡ total m h
+pub total-ext : (m : ℕ) (g h : ℕ → ℕ) → ((i : ℕ) → i < m → g i ≡ h i) → total m g ≡ total m h
 unfolding total
 total-ext zero g h e = refl
 total-ext (suc m) g h e =

@@ -1,50 +1,52 @@
 -- Demand 2, sentence by sentence, stated through the answers of the public calls (`buildAnswer`, `builtBuffer`, `normalAnswer`,
--- `polynomialAnswer`, `timesAnswer`, `listAnswer`, `convertedList`, `readAnswer`).
+-- `polynomialAnswer`, `timesAnswer`, `normalList`, `polynomialList`, `readAnswer`, ..). `SheetOf f n a sheet` says that the sheet is the one of an
+-- accepted f of degree n and a normal element a. That the calls give these answers: `Demand1`; the same over the calls: `Performed`.
 --
 --   issued-exactly, refused-otherwise   "a sheet is issued exactly when the element's conjugates are linearly independent"
---   issued-buffer                       what the buffer then holds
---   holds-conjugates, holds-table       "it holds that element's conjugates in order of squaring and its multiplication table"
+--   issued-buffer, issued-sheet         what the buffer then holds
+--   holds-..                            "it holds that element's conjugates in order of squaring and its multiplication table", and the rest
 --   there-and-back, back-and-there      "converting to either notation and back returns the same value"
 --   multiplies                          "multiplying through the table, then converting, equals polynomial multiplication"
---   list-done, list-at                  a list of values is converted, at every index as the value alone is
+--   list-..-done, list-..-at            a list of values is converted, at every index as the value alone is
 --   lists-there-and-back, ..back-and-there   the round trips of whole lists
 --   read-exactly                        the sheets that build writes are exactly those that read accepts, with the same answer
+--   accepted-..                         so all of this holds of every sheet that reading accepts
 --
 -- Assumes nothing.
 use mathlib.Core.Path.{_≡_, refl, sym, ap, _∙_}
 use mathlib.Core.Logic.{_↔_, ⊎-elim}
 use mathlib.Core.Bool.{true, false}
-use mathlib.Core.List.{List, [], _++_}
-use Prim.Native.Nat.{ℕ, _*_, _^_, _≤_, _<_}
+use mathlib.Core.List.{List, [], _∷_, _++_, map}
+use Prim.Native.Nat.{ℕ, _+_, _*_, _^_, _≤_, _<_}
+use native.Mathlib.Nat.{add-sub-of-le}
 use native.Mathlib.Omega.{arith}
 use lib.ListN.{length, getD, drop, take}
-use lib.Seq.{take-append-seam}
-use Rattle.gf2.specs.Truth.{bool-cases}
 use Rattle.gf2.specs.Poly.{degree, mulMod}
+use Rattle.gf2.specs.Truth.{bool-cases}
 use Rattle.field.specs.Accepted.{Accepted}
-use Rattle.refusals.specs.Answers.{checkedOf}
 use Rattle.field.specs.Answers.{multiplyAnswer}
-use Rattle.field.specs.Checked.{accepted-degree}
 use Rattle.field.specs.Field.{squared}
-use Rattle.refusals.specs.Verdicts.{Verdict, firstOf}
+use Rattle.field.specs.Refusals.{degreeRule, elementRule}
+use Rattle.refusals.specs.Answers.{refusalAt, answerOf, valueOf}
+use Rattle.refusals.specs.Orders.{first-passes, first-none}
+use Rattle.refusals.specs.Verdicts.{Verdict}
 use Rattle.refusals.specs.declared.answer.Checked.the-variants as checked
 use Rattle.refusals.specs.declared.answer.Value.the-variants as value
 use Rattle.rows.specs.Rows.{comb, Independent}
 use Rattle.normal.specs.Normal.{conjugates, normal}
 use Rattle.normal.specs.Coordinates.{normal-means}
-use Rattle.normal.specs.Products.{tableRows-table}
-use Rattle.normal.specs.Selected.{conjugates-at}
-use Rattle.sheet.specs.Record.{recordSize, recordCount, conjugateAt, inverseAt, conjugateIn, tableIn, polynomialIn, sheetBytes}
-use Rattle.sheet.specs.Orders.{buildOrder, readOrder, listLimit}
-use Rattle.sheet.specs.Answers.{refusedAt, issuedOf, done-clear, summaryOf, buildAnswer, written, builtBuffer, convertedBy, convertAnswer, normalAnswer, polynomialAnswer, throughTable, timesAnswer, convertedList, readAnswer, listAnswer}
-use Rattle.sheet.specs.Basis.{basis-tied}
-use Rattle.sheet.specs.Clear.{fields-lt}
+use Rattle.sheet.specs.Record.{recordSize, recordCount, degreeIn, rowIn, tailIn, conjugateIn, inverseIn, tableIn, polynomialIn, sheetBytes}
+use Rattle.sheet.specs.Orders.{listLimit}
+use Rattle.sheet.specs.Answers.{issuedOf, summaryOf, summaryIn, buildAnswer, builtBuffer, toPolynomial, polynomialAnswer, toNormal, normalAnswer, throughTable, timesAnswer, readAnswer, polynomialListAnswer, polynomialList, normalListAnswer, normalList}
+use Rattle.sheet.specs.Issued.{build-answered, answered-based, build-buffer, build-sheet, read-answered, answered-sheet, polynomial-answered, normal-answered, times-answered, list-normal-answered, list-normal, list-polynomial-answered, list-polynomial}
+use Rattle.sheet.specs.Held.{held-degree, held-row, held-tail, held-conjugate, held-inverse, held-table}
+use Rattle.sheet.specs.Issuing.{free-based, based-degree, based-free, build-tied}
+use Rattle.sheet.specs.Lists.{map-length}
 use Rattle.sheet.specs.Rebuilding.{sheetBytes-length}
-use Rattle.sheet.specs.Written.{conjugate-is, table-is}
+use Rattle.sheet.specs.Sheets.{Based, SheetOf}
+use Rattle.sheet.specs.Through.{values-small, element-lt, coordinates-lt, there-back, back-there, product-lt, product-of, map-at, map-below, map-round}
 use Rattle.sheet.specs.declared.answer.Summary.{Summary}
 use Rattle.sheet.specs.declared.answer.Issued.the-variants as issued
-use Rattle.promises.specs.Issuing.{accepted-field, done-is, map-at, verdict, issued-normal, deg, two, most, converts, coordinates-lt, element-lt, there-back, back-there, product-lt, product-is, multiplied, times-done, list-clear, list-converted, list-round}
-use Rattle.promises.specs.Accepting.{parts, shaped, degree-count, read-accepted, read-written, written-summary, written-reads, built-accepted, built-element, built-room, built-free}
 
 -- ---- the issue of a sheet
 
@@ -52,160 +54,196 @@ module _ (f : ℕ) (acc : Accepted f) (a : ℕ) (ha : a < 2 ^ degree f) where
   module _ (room : ℕ) (fits : recordSize * degree f ≤ room) where
     -- "a sheet is issued exactly when the element's conjugates are linearly independent over the two-element field"
     pub issued-exactly : (buildAnswer f a room ≡ issued.Done (summaryOf f (degree f) a)) ↔ Independent (conjugates f (degree f) a) (degree f)
-    unfolding buildAnswer issuedOf
     issued-exactly = (
-      λ e. built-free f a room (done-clear (firstOf (buildOrder f a room)) (summaryOf f (degree f) a) (summaryOf f (degree f) a) e),
-      λ free. ap (λ (v : Verdict). issuedOf v (summaryOf f (degree f) a)) (issued-normal f acc a ha room fits (normal-means f (degree f) a .1 free)),
+      λ e. based-free f (degree f) a (answered-based f a room (summaryOf f (degree f) a) e .0),
+      λ free. build-answered f a room (free-based f a acc ha free) fits,
     )
 
     -- and otherwise refused with number 5
-    pub refused-otherwise : (Independent (conjugates f (degree f) a) (degree f) → ⊥) → buildAnswer f a room ≡ refusedAt 5 0
-    unfolding buildAnswer issuedOf
+    pub refused-otherwise : (Independent (conjugates f (degree f) a) (degree f) → ⊥) → buildAnswer f a room ≡ issued.Refused (refusalAt 5 0)
+    unfolding buildAnswer answerOf
     refused-otherwise tied =
         ⊎-elim
         (λ (e : normal f (degree f) a ≡ true). absurd (tied (normal-means f (degree f) a .0 e)))
-        (λ (e : normal f (degree f) a ≡ false).
-        ap (λ (v : Verdict). issuedOf v (summaryOf f (degree f) a)) (verdict f acc a ha room fits ∙ basis-tied f (degree f) a 0 (accepted-field f acc) refl e))
+        (λ (e : normal f (degree f) a ≡ false). ap (λ (v : Verdict). issuedOf v (summaryOf f (degree f) a)) (build-tied f a room acc ha fits e))
         (bool-cases (normal f (degree f) a))
 
-  -- ---- the issued sheet
-
-  module _ (free : Independent (conjugates f (degree f) a) (degree f)) where
+  module _ (free : Independent (conjugates f (degree f) a) (degree f)) (buffer : List ℕ) (fits : recordSize * degree f ≤ length buffer) where
     -- the sheet stands at the buffer's front, and the rest is as it came
-    pub issued-buffer : (buffer : List ℕ) → recordSize * degree f ≤ length buffer → builtBuffer f a buffer ≡ sheetBytes f (degree f) a ++ drop (recordSize * degree f) buffer
-    unfolding builtBuffer written
-    issued-buffer buffer fits =
-        ap (λ (v : Verdict). written v (sheetBytes f (degree f) a) buffer) (issued-normal f acc a ha (length buffer) fits (normal-means f (degree f) a .1 free))
-        ∙ ap (λ (k : ℕ). sheetBytes f (degree f) a ++ drop k buffer) (sheetBytes-length f (degree f) a)
+    pub issued-buffer : builtBuffer f a buffer ≡ sheetBytes f (degree f) a ++ drop (recordSize * degree f) buffer
+    issued-buffer = build-buffer f a (free-based f a acc ha free) buffer fits
+
+    pub issued-sheet : SheetOf f (degree f) a (take (recordSize * degree f) (builtBuffer f a buffer))
+    issued-sheet = build-sheet f a (free-based f a acc ha free) buffer fits
+
+-- ---- on such a sheet
+
+module _ (f n a : ℕ) (sheet : List ℕ) (s : SheetOf f n a sheet) where
+  -- ---- what record i holds
+
+  module _ (i : ℕ) (h : i < n) where
+    -- "degree n"
+    pub holds-degree : degreeIn sheet i ≡ n
+    holds-degree = held-degree f n a sheet s i h
+
+    -- "row number i"
+    pub holds-row : rowIn sheet i ≡ i
+    holds-row = held-row f n a sheet s i h
+
+    -- "f without its term x^n"
+    pub holds-polynomial : 2 ^ n + tailIn sheet i ≡ f
+    holds-polynomial = ap (λ (t : ℕ). 2 ^ n + t) (held-tail f n a sheet s i h) ∙ add-sub-of-le (based-degree f n a (s .based) .low)
 
     -- "it holds that element's conjugates in order of squaring"
-    pub holds-conjugates : (i : ℕ) → i < degree f → conjugateIn (sheetBytes f (degree f) a) i ≡ squared f (degree f) i a
-    holds-conjugates i h = conjugate-is f (degree f) a (deg f acc a ha free) (two f acc a ha free) (most f acc a ha free) ha free i h ∙ conjugates-at f (degree f) i a h
+    pub holds-conjugates : conjugateIn sheet i ≡ squared f n i a
+    holds-conjugates = held-conjugate f n a sheet s i h
+
+    -- "inverse row: the normal coordinates of x^i": the number below 2^n that selects conjugates whose sum is x^i
+    pub holds-inverse : (inverseIn sheet i < 2 ^ n) × (comb (conjugates f n a) (inverseIn sheet i) ≡ 2 ^ i)
+    holds-inverse = held-inverse f n a sheet s i h
 
     -- "and its multiplication table": row i is the number below 2^n that selects conjugates whose sum is c_0 times c_i
-    pub holds-table : (i : ℕ) → i < degree f
-        → (tableIn (sheetBytes f (degree f) a) i < 2 ^ degree f)
-        × (comb (conjugates f (degree f) a) (tableIn (sheetBytes f (degree f) a) i) ≡ mulMod f (degree f) a (squared f (degree f) i a))
-    holds-table i h =
-        let d = accepted-degree f acc in
-        let rows = tableRows-table f (degree f) (d .is-degree) a ha free in
-        let e = table-is f (degree f) a (d .is-degree) (d .two) (d .most) ha free i h in
-        (rw e (rows .row-lt i h), rw e (rows .row i h))
+    pub holds-table : (tableIn sheet i < 2 ^ n) × (comb (conjugates f n a) (tableIn sheet i) ≡ mulMod f n a (squared f n i a))
+    holds-table = held-table f n a sheet s i h
 
-    -- ---- converting and multiplying
+  -- ---- converting and multiplying
 
-    -- "for every value of the field, converting to either notation and back returns the same value"
-    pub there-and-back : (y : ℕ) → y < 2 ^ degree f
-        → (v : ℕ) × (normalAnswer (sheetBytes f (degree f) a) y ≡ value.Done v) × (polynomialAnswer (sheetBytes f (degree f) a) v ≡ value.Done y)
-    there-and-back y h = (
-      convertedBy (sheetBytes f (degree f) a) inverseAt y,
-      converts f acc a ha free inverseAt y h,
-      converts f acc a ha free conjugateAt _ (coordinates-lt f acc a ha free y) ∙ ap value.Done (there-back f acc a ha free y h),
-    )
+  -- "for every value of the field, converting to either notation and back returns the same value"
+  pub there-and-back : (y : ℕ) → y < 2 ^ n → (v : ℕ) × (normalAnswer sheet y ≡ value.Done v) × (polynomialAnswer sheet v ≡ value.Done y)
+  there-and-back y h =
+      let v : ℕ = toNormal sheet y in
+      (v, normal-answered f n a sheet s y h, polynomial-answered f n a sheet s v (coordinates-lt f n a sheet s y h) ∙ ap value.Done (there-back f n a sheet s y h))
 
-    pub back-and-there : (v : ℕ) → v < 2 ^ degree f
-        → (y : ℕ) × (polynomialAnswer (sheetBytes f (degree f) a) v ≡ value.Done y) × (normalAnswer (sheetBytes f (degree f) a) y ≡ value.Done v)
-    back-and-there v h = (
-      convertedBy (sheetBytes f (degree f) a) conjugateAt v,
-      converts f acc a ha free conjugateAt v h,
-      converts f acc a ha free inverseAt _ (element-lt f acc a ha free v h) ∙ ap value.Done (back-there f acc a ha free v h),
-    )
+  pub back-and-there : (v : ℕ) → v < 2 ^ n → (y : ℕ) × (polynomialAnswer sheet v ≡ value.Done y) × (normalAnswer sheet y ≡ value.Done v)
+  back-and-there v h =
+      let y : ℕ = toPolynomial sheet v in
+      (y, polynomial-answered f n a sheet s v h, normal-answered f n a sheet s y (element-lt f n a sheet s v h) ∙ ap value.Done (back-there f n a sheet s v h))
 
-    -- "multiplying through the table, then converting, equals polynomial multiplication modulo the defining polynomial": u and v stand for
-    -- x and y, and what their product w stands for is what the call multiply answers for x and y
-    pub multiplies : (u v : ℕ) → u < 2 ^ degree f → v < 2 ^ degree f
-        → (w x y : ℕ) × (timesAnswer (sheetBytes f (degree f) a) u v ≡ value.Done w)
-        × (polynomialAnswer (sheetBytes f (degree f) a) u ≡ value.Done x) × (polynomialAnswer (sheetBytes f (degree f) a) v ≡ value.Done y)
-        × (polynomialAnswer (sheetBytes f (degree f) a) w ≡ multiplyAnswer f x y)
-    multiplies u v hu hv = (
-      throughTable (sheetBytes f (degree f) a) u v,
-      convertedBy (sheetBytes f (degree f) a) conjugateAt u,
-      convertedBy (sheetBytes f (degree f) a) conjugateAt v,
-      times-done f acc a ha free u v hu hv,
-      converts f acc a ha free conjugateAt u hu,
-      converts f acc a ha free conjugateAt v hv,
-      converts f acc a ha free conjugateAt _ (product-lt f acc a ha free u v hv) ∙ ap value.Done (product-is f acc a ha free u v hu hv)
-          ∙ sym (multiplied f acc a ha free _ _ (element-lt f acc a ha free u hu) (element-lt f acc a ha free v hv)),
-    )
+  multiplied : (x y : ℕ) → x < 2 ^ n → y < 2 ^ n → multiplyAnswer f x y ≡ value.Done (mulMod f n x y)
+  unfolding multiplyAnswer answerOf
+  multiplied x y hx hy =
+      let e : degree f ≡ n = s .based .has-degree in
+      rw e
+      (ap (λ (w : Verdict). valueOf w (mulMod f n x y))
+      (first-passes (degreeRule f) _ (s .based .accepted .in-range)
+      ∙ first-passes (elementRule n (x ∷ y ∷ [])) _ (values-small n x y hx hy) ∙ first-none))
 
-    -- ---- lists of up to 4,096 values of the field
+  -- "multiplying through the table, then converting, equals polynomial multiplication modulo the defining polynomial": u and v stand for
+  -- x and y, their product w stands for z, and z is what the call multiply answers for x and y, their product modulo f
+  pub multiplies : (u v : ℕ) → u < 2 ^ n → v < 2 ^ n
+      → (w x y z : ℕ) × (timesAnswer sheet u v ≡ value.Done w)
+      × (polynomialAnswer sheet u ≡ value.Done x) × (polynomialAnswer sheet v ≡ value.Done y)
+      × (polynomialAnswer sheet w ≡ value.Done z) × (multiplyAnswer f x y ≡ value.Done z) × (z ≡ mulMod f n x y)
+  multiplies u v hu hv =
+      let w : ℕ = throughTable sheet u v in
+      let x : ℕ = toPolynomial sheet u in
+      let y : ℕ = toPolynomial sheet v in (
+        w,
+        x,
+        y,
+        mulMod f n x y,
+        times-answered f n a sheet s u v hu hv,
+        polynomial-answered f n a sheet s u hu,
+        polynomial-answered f n a sheet s v hv,
+        polynomial-answered f n a sheet s w (product-lt f n a sheet s u v hv) ∙ ap value.Done (product-of f n a sheet s u v hu hv),
+        multiplied x y (element-lt f n a sheet s u hu) (element-lt f n a sheet s v hv),
+        refl,
+      )
 
-    module _ (from : List ℕ) (short : length from ≤ listLimit) (all : (i : ℕ) → i < length from → getD from i 0 < 2 ^ degree f) where
-      pub list-done : listAnswer (sheetBytes f (degree f) a) from (length from) ≡ checked.Done
-      unfolding listAnswer checkedOf
-      list-done = ap checkedOf (list-clear f acc a ha free from short all)
+  -- ---- lists of up to 4,096 values of the field
 
+  module _ (from : List ℕ) (short : length from ≤ listLimit) (all : (i : ℕ) → i < length from → getD from i 0 < 2 ^ n) where
+    pub list-normal-done : normalListAnswer sheet from (length from) ≡ checked.Done
+    list-normal-done = list-normal-answered f n a sheet s from short all
+
+    pub list-polynomial-done : polynomialListAnswer sheet from (length from) ≡ checked.Done
+    list-polynomial-done = list-polynomial-answered f n a sheet s from short all
+
+    module _ (into : List ℕ) (e : length into ≡ length from) where
       -- the conversion rule at every index, in either direction
-      pub list-at : (at : ℕ) (into : List ℕ) → length into ≡ length from → (i : ℕ) → i < length from
-          → convertAnswer (sheetBytes f (degree f) a) at (getD from i 0) ≡ value.Done (getD (convertedList (sheetBytes f (degree f) a) at from into) i 0)
-      list-at at into e i h =
-          converts f acc a ha free at (getD from i 0) (all i h)
-          ∙ ap value.Done (sym (ap (λ (l : List ℕ). getD l i 0) (list-converted f acc a ha free at from into short e all) ∙ map-at (convertedBy (sheetBytes f (degree f) a) at) from i h))
+      pub list-normal-at : (i : ℕ) → i < length from → normalAnswer sheet (getD from i 0) ≡ value.Done (getD (normalList sheet from into) i 0)
+      list-normal-at i h =
+          normal-answered f n a sheet s (getD from i 0) (all i h)
+          ∙ ap value.Done (sym (ap (λ (l : List ℕ). getD l i 0) (list-normal f n a sheet s from short all into e) ∙ map-at (toNormal sheet) from i h))
 
-      pub lists-there-and-back : (into other : List ℕ) → length into ≡ length from → length other ≡ length from
-          → convertedList (sheetBytes f (degree f) a) conjugateAt (convertedList (sheetBytes f (degree f) a) inverseAt from into) other ≡ from
-      lists-there-and-back into other ei eo =
-          list-round f acc a ha free inverseAt conjugateAt (λ y h. coordinates-lt f acc a ha free y) (there-back f acc a ha free) from into other short ei eo all
+      pub list-polynomial-at : (i : ℕ) → i < length from → polynomialAnswer sheet (getD from i 0) ≡ value.Done (getD (polynomialList sheet from into) i 0)
+      list-polynomial-at i h =
+          polynomial-answered f n a sheet s (getD from i 0) (all i h)
+          ∙ ap value.Done (sym (ap (λ (l : List ℕ). getD l i 0) (list-polynomial f n a sheet s from short all into e) ∙ map-at (toPolynomial sheet) from i h))
 
-      pub lists-back-and-there : (into other : List ℕ) → length into ≡ length from → length other ≡ length from
-          → convertedList (sheetBytes f (degree f) a) inverseAt (convertedList (sheetBytes f (degree f) a) conjugateAt from into) other ≡ from
-      lists-back-and-there into other ei eo =
-          list-round f acc a ha free conjugateAt inverseAt (element-lt f acc a ha free) (back-there f acc a ha free) from into other short ei eo all
+      module _ (other : List ℕ) (o : length other ≡ length from) where
+        pub lists-there-and-back : polynomialList sheet (normalList sheet from into) other ≡ from
+        lists-there-and-back =
+            let there : ℕ → ℕ = toNormal sheet in
+            let size : length (map there from) ≡ length from = map-length there from in
+            ap (λ (l : List ℕ). polynomialList sheet l other) (list-normal f n a sheet s from short all into e)
+            ∙ list-polynomial f n a sheet s (map there from) (rw size short) (map-below there (2 ^ n) (coordinates-lt f n a sheet s) from all) other (o ∙ sym size)
+            ∙ map-round there (toPolynomial sheet) (2 ^ n) (there-back f n a sheet s) from all
+
+        pub lists-back-and-there : normalList sheet (polynomialList sheet from into) other ≡ from
+        lists-back-and-there =
+            let there : ℕ → ℕ = toPolynomial sheet in
+            let size : length (map there from) ≡ length from = map-length there from in
+            ap (λ (l : List ℕ). normalList sheet l other) (list-polynomial f n a sheet s from short all into e)
+            ∙ list-normal f n a sheet s (map there from) (rw size short) (map-below there (2 ^ n) (element-lt f n a sheet s) from all) other (o ∙ sym size)
+            ∙ map-round there (toNormal sheet) (2 ^ n) (back-there f n a sheet s) from all
 
 -- ---- reading
 
--- a sheet that build wrote, at the front of some buffer, answering s
-pub record Built (sheet : List ℕ) (s : Summary) : Type 0 where
+-- a sheet that build wrote, at the front of some buffer, answering t
+pub record Built (sheet : List ℕ) (t : Summary) : Type 0 where
   pub f : ℕ
   pub a : ℕ
   pub buffer : List ℕ
-  pub answer : buildAnswer f a (length buffer) ≡ issued.Done s
+  pub answer : buildAnswer f a (length buffer) ≡ issued.Done t
   pub front : sheet ≡ take (recordSize * degree f) (builtBuffer f a buffer)
 
--- what build wrote stands at the front
-front-is : (f : ℕ) (acc : Accepted f) (a : ℕ) (ha : a < 2 ^ degree f) (free : Independent (conjugates f (degree f) a) (degree f)) (buffer : List ℕ)
-    → recordSize * degree f ≤ length buffer → take (recordSize * degree f) (builtBuffer f a buffer) ≡ sheetBytes f (degree f) a
-front-is f acc a ha free buffer fits =
-    let s : List ℕ = sheetBytes f (degree f) a in
-    ap (take (recordSize * degree f)) (issued-buffer f acc a ha free buffer fits)
-    ∙ ap (λ (k : ℕ). take k (s ++ drop (recordSize * degree f) buffer)) (sym (sheetBytes-length f (degree f) a)) ∙ take-append-seam s _
-
-accepted-built : (sheet : List ℕ) (s : Summary) → readAnswer sheet ≡ issued.Done s → Built sheet s
-unfolding readAnswer
-accepted-built sheet s r =
+accepted-built : (sheet : List ℕ) (t : Summary) → readAnswer sheet ≡ issued.Done t → Built sheet t
+accepted-built sheet t r =
     let f : ℕ = polynomialIn sheet in
     let a : ℕ = conjugateIn sheet 0 in
-    let c = done-clear (firstOf (readOrder sheet)) (summaryOf f (recordCount sheet) a) s r in
-    let z = shaped sheet c in
-    let acc = read-accepted sheet c in
-    let ha : a < 2 ^ degree f = rw (degree-count sheet c) (fields-lt sheet z 0 (omega (arith, z .size .two)) .1) in
-    let free : Independent (conjugates f (degree f) a) (degree f) = rw (degree-count sheet c) (normal-means f (recordCount sheet) a .0 (parts sheet c .1 .1)) in
-    let size : length sheet ≡ recordSize * degree f = ap length (read-written sheet c) ∙ sheetBytes-length f (degree f) a in
+    let x = answered-sheet sheet t r in
+    let d : degree f ≡ recordCount sheet = x .0 .based .has-degree in
+    let b : Based f (degree f) a = rw d (x .0 .based) in
+    let bytes : sheet ≡ sheetBytes f (degree f) a = rw d (x .0 .bytes) in
+    let size : length sheet ≡ recordSize * degree f = ap length bytes ∙ sheetBytes-length f (degree f) a in
     let fits : recordSize * degree f ≤ length sheet = omega (arith, size) in
-    let e : summaryOf f (degree f) a ≡ s = rw (degree-count sheet c) (done-is (firstOf (readOrder sheet)) (summaryOf f (recordCount sheet) a) s r) in
     record {
       f = f;
       a = a;
       buffer = sheet;
-      answer = issued-exactly f acc a ha (length sheet) fits .1 free ∙ ap issued.Done e;
-      front = read-written sheet c ∙ sym (front-is f acc a ha free sheet fits);
+      answer = build-answered f a (length sheet) b fits ∙ ap issued.Done (rw d (x .1));
+      front = bytes ∙ sym (build-sheet f a b sheet fits .bytes);
     }
 
-built-read : (sheet : List ℕ) (s : Summary) → Built sheet s → readAnswer sheet ≡ issued.Done s
-unfolding readAnswer issuedOf buildAnswer
-built-read sheet s w =
-    let f : ℕ = w .f in
-    let a : ℕ = w .a in
-    let room : ℕ = length (w .buffer) in
-    let c = done-clear (firstOf (buildOrder f a room)) (summaryOf f (degree f) a) s (w .answer) in
-    let acc = built-accepted f a room c in
-    let ha = built-element f a room c in
-    let free = built-free f a room c in
-    let is : sheet ≡ sheetBytes f (degree f) a = w .front ∙ front-is f acc a ha free (w .buffer) (built-room f a room c) in
-    ap readAnswer is
-    ∙ ap (λ (v : Verdict). issuedOf v (summaryOf (polynomialIn (sheetBytes f (degree f) a)) (recordCount (sheetBytes f (degree f) a)) (conjugateIn (sheetBytes f (degree f) a) 0))) (written-reads f acc a ha free)
-    ∙ ap issued.Done (written-summary f acc a ha free ∙ done-is (firstOf (buildOrder f a room)) (summaryOf f (degree f) a) s (w .answer))
+built-read : (sheet : List ℕ) (t : Summary) → Built sheet t → readAnswer sheet ≡ issued.Done t
+built-read sheet t w =
+    let x = answered-based (w .f) (w .a) (length (w .buffer)) t (w .answer) in
+    let s = build-sheet (w .f) (w .a) (x .0) (w .buffer) (x .1) in
+    ap readAnswer (w .front) ∙ read-answered (w .f) (degree (w .f)) (w .a) _ s ∙ ap issued.Done (x .2)
 
 -- "sheets the builder wrote, which are exactly those that reading accepts"
-pub read-exactly : (sheet : List ℕ) (s : Summary) → (readAnswer sheet ≡ issued.Done s) ↔ Built sheet s
-read-exactly sheet s = (accepted-built sheet s, built-read sheet s)
+pub read-exactly : (sheet : List ℕ) (t : Summary) → (readAnswer sheet ≡ issued.Done t) ↔ Built sheet t
+read-exactly sheet t = (accepted-built sheet t, built-read sheet t)
+
+-- ---- for a caller who holds a sheet that reading accepts, and nothing else: f, n and a are those that the sheet names itself
+
+module _ (sheet : List ℕ) (t : Summary) (r : readAnswer sheet ≡ issued.Done t) where
+  pub accepted-sheet : SheetOf (polynomialIn sheet) (recordCount sheet) (conjugateIn sheet 0) sheet
+  accepted-sheet = answered-sheet sheet t r .0
+
+  -- what reading answered is what that sheet's element has
+  pub accepted-summary : t ≡ summaryIn sheet
+  accepted-summary = sym (answered-sheet sheet t r .1)
+
+  pub accepted-there-and-back : (y : ℕ) → y < 2 ^ recordCount sheet → (v : ℕ) × (normalAnswer sheet y ≡ value.Done v) × (polynomialAnswer sheet v ≡ value.Done y)
+  accepted-there-and-back = there-and-back (polynomialIn sheet) (recordCount sheet) (conjugateIn sheet 0) sheet accepted-sheet
+
+  pub accepted-back-and-there : (v : ℕ) → v < 2 ^ recordCount sheet → (y : ℕ) × (polynomialAnswer sheet v ≡ value.Done y) × (normalAnswer sheet y ≡ value.Done v)
+  accepted-back-and-there = back-and-there (polynomialIn sheet) (recordCount sheet) (conjugateIn sheet 0) sheet accepted-sheet
+
+  pub accepted-multiplies : (u v : ℕ) → u < 2 ^ recordCount sheet → v < 2 ^ recordCount sheet
+      → (w x y z : ℕ) × (timesAnswer sheet u v ≡ value.Done w)
+      × (polynomialAnswer sheet u ≡ value.Done x) × (polynomialAnswer sheet v ≡ value.Done y)
+      × (polynomialAnswer sheet w ≡ value.Done z) × (multiplyAnswer (polynomialIn sheet) x y ≡ value.Done z) × (z ≡ mulMod (polynomialIn sheet) (recordCount sheet) x y)
+  accepted-multiplies = multiplies (polynomialIn sheet) (recordCount sheet) (conjugateIn sheet 0) sheet accepted-sheet

@@ -6,7 +6,6 @@
 --
 -- Assumes nothing.
 use mathlib.Core.Path.{_≡_, refl}
-use mathlib.Core.Bool.{_||_}
 use mathlib.Core.List.{List, [], _∷_, _++_}
 use Prim.Native.Nat.{ℕ, _*_}
 use lib.Count.{ones, onesIn}
@@ -17,16 +16,16 @@ use Rattle.field.specs.Field.{squared}
 use Rattle.field.specs.Accepted.{degreeOutside, divided, strays}
 use Rattle.refusals.specs.Verdicts.{firstOf}
 use Rattle.field.specs.Refusals.{tooLarge}
-use Rattle.refusals.specs.Answers.{Report, reportOf}
+use Rattle.refusals.specs.Answers.{Report, reportOf, left}
 use Rattle.field.specs.Answers.{checkReport}
 use Rattle.rows.specs.Bits.{bitOf}
 use Rattle.rows.specs.Rows.{comb, independent}
 use Rattle.normal.specs.Normal.{conjugatesFrom, conjugates, normal, coordinates, listed, inverseRows, tableRows, complexity}
 use Rattle.normal.specs.Grades.{prime, gradeOf, gradeNumber}
 use Rattle.normal.specs.TableProduct.{total, productBit, tableProduct}
-use Rattle.sheet.specs.Record.{recordSize, conjugateAt, inverseAt, tableAt, bytesOf, numberIn, recordBytes, recordsTo, sheetBytes, fieldIn, rowsIn, recordAt}
+use Rattle.sheet.specs.Record.{recordSize, conjugateRowsIn, inverseRowsIn, tableRowsIn, bytesOf, numberIn, recordBytes, recordsTo, sheetBytes, columnIn, rowsIn, recordAt}
 use Rattle.sheet.specs.Orders.{badLength, misplaced, oversized, recordRules, valueRules}
-use Rattle.sheet.specs.Answers.{Issue, issueOf, summaryOf, buildReport, written, builtBuffer, readReport, convertedBy, convertReport, polynomialReport, normalReport, throughTable, timesReport}
+use Rattle.sheet.specs.Answers.{Issue, issueOf, summaryOf, buildReport, builtBuffer, readReport, toPolynomial, polynomialReport, toNormal, normalReport, throughTable, timesReport}
 
 -- a buffer of 32n bytes, all zero, in which the sheet is built
 abbrev blank : (f : ℕ) → List ℕ
@@ -49,7 +48,7 @@ unissued k p = record { number = k; place = p; degree = 0; complexity = 0; grade
 abbrev pub Issued : (f a : ℕ) (conjugates inverse table : List ℕ) (complexity grade : ℕ) → Type 0
 Issued f a C I T k g =
     (buildReport f a (recordSize * degree f) ≡ record { number = 0; place = 0; degree = degree f; complexity = k; grade = g })
-    × (rowsIn (sheetOf f a) conjugateAt ≡ C) × (rowsIn (sheetOf f a) inverseAt ≡ I) × (rowsIn (sheetOf f a) tableAt ≡ T)
+    × (conjugateRowsIn (sheetOf f a) ≡ C) × (inverseRowsIn (sheetOf f a) ≡ I) × (tableRowsIn (sheetOf f a) ≡ T)
 
 -- no sheet of f and a is built, for this reason
 abbrev pub Refused : (f a number : ℕ) → Type 0
@@ -82,7 +81,7 @@ pub examples : Issued 7 2 (2 ∷ 3 ∷ []) (3 ∷ 1 ∷ []) (2 ∷ 3 ∷ []) 3 1
     × Issued 19 9 (9 ∷ 13 ∷ 14 ∷ 11 ∷ []) (15 ∷ 9 ∷ 3 ∷ 14 ∷ []) (2 ∷ 11 ∷ 5 ∷ 13 ∷ []) 9 0
     × Rejected 5 2
     × Rejected 3 1
-unfolding buildReport builtBuffer written checkReport convertReport timesReport reportOf issueOf summaryOf convertedBy throughTable firstOf badLength misplaced oversized recordRules valueRules tooLarge fieldIn numberIn rowsIn bytesOf recordBytes recordsTo sheetBytes degreeOutside divided strays divides degree some first normal independent conjugates conjugatesFrom squared inverseRows tableRows listed coordinates comb mulMod rem reduce product digits digitsFrom _⊕_ complexity ones onesIn gradeOf gradeNumber prime tableProduct productBit total bitOf
+unfolding buildReport builtBuffer left checkReport polynomialReport normalReport timesReport reportOf issueOf summaryOf toPolynomial toNormal throughTable firstOf badLength misplaced oversized recordRules valueRules tooLarge columnIn numberIn rowsIn bytesOf recordBytes recordsTo sheetBytes degreeOutside divided strays divides degree some first normal independent conjugates conjugatesFrom squared inverseRows tableRows listed coordinates comb mulMod rem reduce product digits digitsFrom _⊕_ complexity ones onesIn gradeOf gradeNumber prime tableProduct productBit total bitOf
 examples = ((refl, refl, refl, refl), refl, refl, refl, (refl, refl, refl, refl), refl, refl, (refl, refl), (refl, refl, refl, refl), (refl, refl, refl, refl), refl, refl)
 
 -- ---- the line on the sheet file
@@ -92,11 +91,11 @@ abbrev zeros : ℕ → List ℕ
 zeros k = replicate k 0
 
 pub bytes : recordAt (sheetOf 7 2) 1 ≡ (2 ∷ 1 ∷ 3 ∷ zeros 5) ++ (3 ∷ zeros 7) ++ (1 ∷ zeros 7) ++ (3 ∷ zeros 7)
-unfolding recordAt builtBuffer written firstOf tooLarge bytesOf recordBytes recordsTo sheetBytes degreeOutside divided strays divides degree some first normal independent conjugates conjugatesFrom squared inverseRows tableRows listed coordinates comb mulMod rem reduce product digits digitsFrom _⊕_
+unfolding recordAt builtBuffer left firstOf tooLarge bytesOf recordBytes recordsTo sheetBytes degreeOutside divided strays divides degree some first normal independent conjugates conjugatesFrom squared inverseRows tableRows listed coordinates comb mulMod rem reduce product digits digitsFrom _⊕_
 bytes = refl
 
 -- "The same sheet without record 0: refusal 7. The sheet of 11 and 3 without its middle record: refusal 8, place 0."
 pub damaged : (readReport (drop recordSize (sheetOf 7 2)) ≡ unissued 7 0)
     × (readReport (recordAt (sheetOf 11 3) 0 ++ recordAt (sheetOf 11 3) 2) ≡ unissued 8 0)
-unfolding readReport issueOf recordAt builtBuffer written firstOf badLength misplaced recordRules fieldIn numberIn tooLarge bytesOf recordBytes recordsTo sheetBytes degreeOutside divided strays divides degree some first normal independent conjugates conjugatesFrom squared inverseRows tableRows listed coordinates comb mulMod rem reduce product digits digitsFrom _⊕_
+unfolding readReport issueOf recordAt builtBuffer left firstOf badLength misplaced recordRules columnIn numberIn tooLarge bytesOf recordBytes recordsTo sheetBytes degreeOutside divided strays divides degree some first normal independent conjugates conjugatesFrom squared inverseRows tableRows listed coordinates comb mulMod rem reduce product digits digitsFrom _⊕_
 damaged = (refl, refl)

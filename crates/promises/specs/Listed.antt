@@ -1,0 +1,179 @@
+-- The numbers that each call's order has, as document 01 lists them, and the places that its table has for them ("Refusal numbers",
+-- "Orders."): every rule of the order has such a number and such a place.
+--
+--   OnShape, OnValue, OnList, OnReading   the numbers and places of the calls on a sheet of m records
+--   ..-listed, ..-positive                an order has these, and none of the numbers is 0
+--   field-orders, ..-sequence             the numbers of an order, one after another, are those that document 01 lists
+--
+-- Assumes nothing.
+use mathlib.Core.Path.{_≡_, refl, ap, _∙_}
+use mathlib.Core.Logic.{_⊎_, inl, inr}
+use mathlib.Core.List.{List, [], _∷_, _++_}
+use Prim.Native.Nat.{ℕ, zero, suc, _+_, _≤_, _<_}
+use native.Mathlib.Omega.{arith}
+use lib.ListN.{length, replicate}
+use Rattle.refusals.specs.Verdicts.{Rule}
+use Rattle.field.specs.Refusals.{elementRule, multiplyOrder, squareOrder, traceOrder, checkOrder}
+use Rattle.sheet.specs.Record.{recordCount, conjugateIn, polynomialIn}
+use Rattle.sheet.specs.Orders.{recordRules, differRules, valueRules, listRule, shapeOrder, basisOrder, rebuiltFrom, buildOrder, readOrder, valueOrder, listOrder}
+use Rattle.search.specs.Answers.{searchOrder}
+use Rattle.promises.specs.Verdicts.{AtZero, Below, Every, numbersOf, every-append, every-also, listed-at-zero, at-zero-positive, below-positive}
+
+-- ---- orders whose places are all 0
+
+pub multiply-listed : (f a b : ℕ) → Every (AtZero (1 ∷ 4 ∷ [])) (multiplyOrder f a b)
+multiply-listed f a b = listed-at-zero (multiplyOrder f a b) refl
+
+pub square-listed : (f a : ℕ) → Every (AtZero (1 ∷ 4 ∷ [])) (squareOrder f a)
+square-listed f a = listed-at-zero (squareOrder f a) refl
+
+pub trace-listed : (f a : ℕ) → Every (AtZero (1 ∷ 4 ∷ 2 ∷ 3 ∷ [])) (traceOrder f a)
+trace-listed f a = listed-at-zero (traceOrder f a) refl
+
+pub check-listed : (f : ℕ) → Every (AtZero (1 ∷ 2 ∷ 3 ∷ [])) (checkOrder f)
+check-listed f = listed-at-zero (checkOrder f) refl
+
+pub build-listed : (f a room : ℕ) → Every (AtZero (1 ∷ 4 ∷ 6 ∷ 2 ∷ 3 ∷ 5 ∷ [])) (buildOrder f a room)
+build-listed f a room = listed-at-zero (buildOrder f a room) refl
+
+pub search-listed : (f first last : ℕ) → Every (AtZero (1 ∷ 4 ∷ 12 ∷ 2 ∷ 3 ∷ [])) (searchOrder f first last)
+search-listed f first last = listed-at-zero (searchOrder f first last) refl
+
+-- ---- the calls on a sheet of m records: a record's number is its place
+
+-- "7, then records from 0 upward with 8 before 9 in each"
+abbrev pub OnShape : (m : ℕ) → ℕ → ℕ → Type 0
+OnShape m k p = AtZero (7 ∷ []) k p ⊎ Below (8 ∷ 9 ∷ []) m k p
+
+-- "then 4"
+abbrev pub OnValue : (m : ℕ) → ℕ → ℕ → Type 0
+OnValue m k p = AtZero (4 ∷ []) k p ⊎ OnShape m k p
+
+-- "with 11 before 4", which has the index in a list of l values as its place
+abbrev pub OnList : (m l : ℕ) → ℕ → ℕ → Type 0
+OnList m l k p = AtZero (11 ∷ []) k p ⊎ (Below (4 ∷ []) l k p ⊎ OnShape m k p)
+
+-- "then 2, 3, 5 .., then 10"
+abbrev pub OnReading : (m : ℕ) → ℕ → ℕ → Type 0
+OnReading m k p = AtZero (2 ∷ 3 ∷ 5 ∷ []) k p ⊎ (Below (10 ∷ []) m k p ⊎ OnShape m k p)
+
+records-listed : (sheet : List ℕ) (m k i : ℕ) → i + k ≤ m → Every (Below (8 ∷ 9 ∷ []) m) (recordRules sheet i k)
+unfolding recordRules
+records-listed sheet m zero i h = tt
+records-listed sheet m (suc k) i h = ((inl refl, omega arith), ((inr (inl refl), omega arith), records-listed sheet m k (i + 1) (omega arith)))
+
+differ-listed : (sheet rebuilt : List ℕ) (m k i : ℕ) → i + k ≤ m → Every (Below (10 ∷ []) m) (differRules sheet rebuilt i k)
+unfolding differRules
+differ-listed sheet rebuilt m zero i h = tt
+differ-listed sheet rebuilt m (suc k) i h = ((inl refl, omega arith), differ-listed sheet rebuilt m k (i + 1) (omega arith))
+
+values-listed : (n l i : ℕ) (values : List ℕ) → i + length values ≤ l → Every (Below (4 ∷ []) l) (valueRules n i values)
+unfolding valueRules
+values-listed n l i [] h = tt
+values-listed n l i (v ∷ values) h = ((inl refl, omega arith), values-listed n l (i + 1) values (omega arith))
+
+shape-listed : (sheet : List ℕ) → Every (OnShape (recordCount sheet)) (shapeOrder sheet)
+shape-listed sheet =
+    let m : ℕ = recordCount sheet in (
+      inl (inl refl, refl),
+      every-also (Below (8 ∷ 9 ∷ []) m) (OnShape m) (λ k p h. inr h) (recordRules sheet 0 m) (records-listed sheet m m 0 (omega arith)),
+    )
+
+pub value-listed : (sheet values : List ℕ) → Every (OnValue (recordCount sheet)) (valueOrder sheet values)
+value-listed sheet values =
+    let m : ℕ = recordCount sheet in
+    every-append (OnValue m) (shapeOrder sheet) (elementRule m values ∷ [])
+    (every-also (OnShape m) (OnValue m) (λ k p h. inr h) (shapeOrder sheet) (shape-listed sheet)) (inl (inl refl, refl), tt)
+
+pub list-listed : (sheet from : List ℕ) (into : ℕ) → Every (OnList (recordCount sheet) (length from)) (listOrder sheet from into)
+list-listed sheet from into =
+    let m : ℕ = recordCount sheet in
+    let l : ℕ = length from in
+    every-append (OnList m l) (shapeOrder sheet) (listRule l into ∷ valueRules m 0 from)
+    (every-also (OnShape m) (OnList m l) (λ k p h. inr (inr h)) (shapeOrder sheet) (shape-listed sheet))
+    (inl (inl refl, refl), every-also (Below (4 ∷ []) l) (OnList m l) (λ k p h. inr (inl h)) (valueRules m 0 from) (values-listed m l 0 from (omega arith)))
+
+pub read-listed : (sheet : List ℕ) → Every (OnReading (recordCount sheet)) (readOrder sheet)
+read-listed sheet =
+    let m : ℕ = recordCount sheet in
+    let basis : List Rule = basisOrder (polynomialIn sheet) (recordCount sheet) (conjugateIn sheet 0) in
+    let differ : List Rule = differRules sheet (rebuiltFrom sheet) 0 m in
+    every-append (OnReading m) (shapeOrder sheet) (basis ++ differ)
+    (every-also (OnShape m) (OnReading m) (λ k p h. inr (inr h)) (shapeOrder sheet) (shape-listed sheet))
+    (every-append (OnReading m) basis differ
+    (every-also (AtZero (2 ∷ 3 ∷ 5 ∷ [])) (OnReading m) (λ k p h. inl h) basis (listed-at-zero basis refl))
+    (every-also (Below (10 ∷ []) m) (OnReading m) (λ k p h. inr (inl h)) differ (differ-listed sheet (rebuiltFrom sheet) m m 0 (omega arith))))
+
+-- ---- no number is 0
+
+shape-positive : (m k p : ℕ) → OnShape m k p → 0 < k
+shape-positive m k p (inl h) = at-zero-positive (7 ∷ []) refl k p h
+shape-positive m k p (inr h) = below-positive (8 ∷ 9 ∷ []) m refl k p h
+
+pub value-positive : (m k p : ℕ) → OnValue m k p → 0 < k
+value-positive m k p (inl h) = at-zero-positive (4 ∷ []) refl k p h
+value-positive m k p (inr h) = shape-positive m k p h
+
+pub list-positive : (m l k p : ℕ) → OnList m l k p → 0 < k
+list-positive m l k p (inl h) = at-zero-positive (11 ∷ []) refl k p h
+list-positive m l k p (inr (inl h)) = below-positive (4 ∷ []) l refl k p h
+list-positive m l k p (inr (inr h)) = shape-positive m k p h
+
+pub read-positive : (m k p : ℕ) → OnReading m k p → 0 < k
+read-positive m k p (inl h) = at-zero-positive (2 ∷ 3 ∷ 5 ∷ []) refl k p h
+read-positive m k p (inr (inl h)) = below-positive (10 ∷ []) m refl k p h
+read-positive m k p (inr (inr h)) = shape-positive m k p h
+
+-- ---- the numbers one after another
+
+-- "Multiply, square: 1, 4. Trace: 1, 4, 2, 3. Check of f: 1, 2, 3. Build: 1, 4, 6, 2, 3, 5. Search: 1, 4, 12, 2, 3."
+pub field-orders : (f a b room first last : ℕ)
+    → (numbersOf (multiplyOrder f a b) ≡ 1 ∷ 4 ∷ []) × (numbersOf (squareOrder f a) ≡ 1 ∷ 4 ∷ []) × (numbersOf (traceOrder f a) ≡ 1 ∷ 4 ∷ 2 ∷ 3 ∷ [])
+    × (numbersOf (checkOrder f) ≡ 1 ∷ 2 ∷ 3 ∷ []) × (numbersOf (buildOrder f a room) ≡ 1 ∷ 4 ∷ 6 ∷ 2 ∷ 3 ∷ 5 ∷ [])
+    × (numbersOf (searchOrder f first last) ≡ 1 ∷ 4 ∷ 12 ∷ 2 ∷ 3 ∷ [])
+field-orders f a b room first last = (refl, refl, refl, refl, refl, refl)
+
+-- "records from 0 upward with 8 before 9 in each"
+abbrev pub eightNine : (records : ℕ) → List ℕ
+eightNine zero = []
+eightNine (suc k) = 8 ∷ 9 ∷ eightNine k
+
+numbers-append : (xs ys : List Rule) → numbersOf (xs ++ ys) ≡ numbersOf xs ++ numbersOf ys
+numbers-append [] ys = refl
+numbers-append (r ∷ xs) ys = ap (λ (l : List ℕ). r .number ∷ l) (numbers-append xs ys)
+
+records-sequence : (sheet : List ℕ) (i k : ℕ) → numbersOf (recordRules sheet i k) ≡ eightNine k
+unfolding recordRules
+records-sequence sheet i zero = refl
+records-sequence sheet i (suc k) = ap (λ (l : List ℕ). 8 ∷ 9 ∷ l) (records-sequence sheet (i + 1) k)
+
+shape-then : (sheet : List ℕ) (rest : List Rule) → numbersOf (shapeOrder sheet ++ rest) ≡ 7 ∷ (eightNine (recordCount sheet) ++ numbersOf rest)
+shape-then sheet rest =
+    numbers-append (shapeOrder sheet) rest ∙ ap (λ (l : List ℕ). 7 ∷ (l ++ numbersOf rest)) (records-sequence sheet 0 (recordCount sheet))
+
+-- "7, then records .., then 4"
+pub value-sequence : (sheet values : List ℕ) → numbersOf (valueOrder sheet values) ≡ 7 ∷ (eightNine (recordCount sheet) ++ (4 ∷ []))
+value-sequence sheet values = shape-then sheet (elementRule (recordCount sheet) values ∷ [])
+
+fours : (n i : ℕ) (values : List ℕ) → numbersOf (valueRules n i values) ≡ replicate (length values) 4
+unfolding valueRules
+fours n i [] = refl
+fours n i (v ∷ values) = ap (λ (l : List ℕ). 4 ∷ l) (fours n (i + 1) values)
+
+-- "the same, with 11 before 4"
+pub list-sequence : (sheet from : List ℕ) (into : ℕ)
+    → numbersOf (listOrder sheet from into) ≡ 7 ∷ (eightNine (recordCount sheet) ++ (11 ∷ replicate (length from) 4))
+list-sequence sheet from into =
+    shape-then sheet (listRule (length from) into ∷ valueRules (recordCount sheet) 0 from)
+    ∙ ap (λ (l : List ℕ). 7 ∷ (eightNine (recordCount sheet) ++ (11 ∷ l))) (fours (recordCount sheet) 0 from)
+
+tens : (sheet rebuilt : List ℕ) (i k : ℕ) → numbersOf (differRules sheet rebuilt i k) ≡ replicate k 10
+unfolding differRules
+tens sheet rebuilt i zero = refl
+tens sheet rebuilt i (suc k) = ap (λ (l : List ℕ). 10 ∷ l) (tens sheet rebuilt (i + 1) k)
+
+-- "7, 8 and 9 as above, then 2, 3, 5 .., then 10"
+pub read-sequence : (sheet : List ℕ) → numbersOf (readOrder sheet) ≡ 7 ∷ (eightNine (recordCount sheet) ++ (2 ∷ 3 ∷ 5 ∷ replicate (recordCount sheet) 10))
+read-sequence sheet =
+    shape-then sheet (basisOrder (polynomialIn sheet) (recordCount sheet) (conjugateIn sheet 0) ++ differRules sheet (rebuiltFrom sheet) 0 (recordCount sheet))
+    ∙ ap (λ (l : List ℕ). 7 ∷ (eightNine (recordCount sheet) ++ (2 ∷ 3 ∷ 5 ∷ l))) (tens sheet (rebuiltFrom sheet) 0 (recordCount sheet))
