@@ -1,6 +1,7 @@
 -- One leader joined to what is held, as far as it is decided: its count of ones has to be exact only up to a bound that what is held gives.
 --
---   boundOf w                how many ones a table may have and still be the best beside w; where nothing is held, the largest number of 32 bits
+--   unbounded                the largest number of 32 bits, which no count passes
+--   boundOf w                how many ones a table may have and still be the best beside w
 --   Joinable f n w a x       a is a leader of which x is decided, as far as joining it to w needs, and one more can be counted
 --
 -- In order: a record with an inexact count is kept or not as the exact one would be; a found record joined, case by case; the leader
@@ -27,9 +28,13 @@ use Rattle.search.specs.declared.answer.Best.{Best}
 use Rattle.search.specs.declared.answer.Search.{Search}
 use Rattle.search.specs.declared.answer.Search.the-variants.{Refused, Nothing, Found}
 
+abbrev pub unbounded : ℕ
+unbounded = 4294967295
+
+-- Nothing is joined to a refusal, so that there any bound will do.
 abbrev pub boundOf : Search → ℕ
 boundOf (Refused k) = 0
-boundOf Nothing = 4294967295
+boundOf Nothing = unbounded
 boundOf (Found x) = x .complexity
 
 pub record Joinable (f n : ℕ) (w : Search) (a : ℕ) (x : Decided) : Type 0 where
@@ -63,7 +68,7 @@ module _ (f n a : ℕ) (x : Best) where
       (order (x .complexity) c)
 
 -- c is a number of 32 bits
-joined-within : (f n a : ℕ) (w : Search) (c d : ℕ) → c ≤ 4294967295 → Within (boundOf w) c d
+joined-within : (f n a : ℕ) (w : Search) (c d : ℕ) → c ≤ unbounded → Within (boundOf w) c d
     → joined w (Found (foundBy f n a c)) ≡ joined w (Found (foundBy f n a d))
 unfolding joined
 joined-within f n a (Refused k) c d h e = refl
@@ -96,7 +101,7 @@ module _ (f n : ℕ) (w : Search) (a : ℕ) (x : Decided) (s : Joinable f n w a 
       let t : normal f n a ≡ false = rw e at (s .decides) in
       sym (rw (candidate-none f n a (not-normal f n a (s .leads) t)) (joined-nothing w))
 
-  pub join-normal : (c : ℕ) → x ≡ decided.Normal c → c ≤ 4294967295 → (r : Search) → r ≡ joined w (Found (foundBy f n a c)) → r ≡ joined w (candidateOf f n a)
+  pub join-normal : (c : ℕ) → x ≡ decided.Normal c → c ≤ unbounded → (r : Search) → r ≡ joined w (Found (foundBy f n a c)) → r ≡ joined w (candidateOf f n a)
   unfolding complexityAt
   join-normal c e h r er =
       let t : Decides f n a (boundOf w) (decided.Normal c) = rw e at (s .decides) in

@@ -10,6 +10,9 @@ use super::answer::Search;
 use elements::Decided;
 use normal::grade_of;
 
+// The largest number of 32 bits, which no count of ones passes. The specs have it as `unbounded`.
+const UNBOUNDED: u32 = 4294967295;
+
 // The found record of the normal leader a, whose table has so many ones. No other place makes one of an element.
 fn found_by(f: u64, n: u32, a: u64, ones: u32) -> Best
     requires { ⌜ ElementOf f n a ⌝ }
@@ -63,7 +66,7 @@ pub fn bound_of(held: Search) -> u32
 {
     match held {
         Search::Refused(_) => 0,
-        Search::Nothing => 4294967295,
+        Search::Nothing => UNBOUNDED,
         Search::Found(x) => x.complexity,
     }
 }
