@@ -1,4 +1,4 @@
-// The twelve calls. Each takes any numbers and lent memory, and its promise gives every number that it hands out and the last state of
+// The twelve calls. Each takes any numbers and lent memory, and its promise gives every number that it hands out and the final state of
 // what it may write.
 ghost use mathlib.Core.Path.{_≡_};
 ghost use lib.ListN.{length};
@@ -14,7 +14,7 @@ use super::answer::found_out;
 use super::answer::issued_out;
 use super::answer::value_out;
 
-// Whether f is accepted.
+// Whether f is accepted. Its value is 0: there is none.
 #[no_mangle]
 pub extern "C" fn desk_check(f: u64) -> DeskValue
     ensures { λ r. ⌜ r ≡ deskValue (checkReport f) ⌝ }
@@ -105,7 +105,8 @@ pub extern "C" fn desk_times(sheet: &[u8], a: u64, b: u64) -> DeskValue
     value_out(sheet::times(sheet, a, b))
 }
 
-// The normal class leader from first to last, both included, whose table has the fewest ones.
+// The normal class leader from first to last, both included, whose table has the fewest ones, the smallest on a tie, and the count of all
+// normal leaders there; or nothing.
 #[no_mangle]
 pub extern "C" fn desk_search(f: u64, first: u64, last: u64) -> DeskFound
     ensures { λ r. ⌜ r ≡ deskFound (foundFlag (searchAnswer f first last)) (searchReport f first last) ⌝ }

@@ -1,12 +1,13 @@
 -- When f is accepted (document 01, "Two notations"): "its degree n is 2 to 46, no polynomial of degree 1 to n-1 divides it,
--- and x squared n times in a row leaves x modulo f." Each of the three is a test of its own, named after its refusal.
+-- and x squared n times in a row leaves x modulo f." Each of the three has a test that says where it fails, which is a refusal's condition.
+-- Definitions alone.
 --
 --   degreeOutside f   refusal 1
 --   divided f n       refusal 2; `divided-means` (in `Divided`) says it for every d
 --   strays f n        refusal 3
 --   Accepted f        none of them; `check-accepts` (in `Checked`): the check is done exactly for these
---   InRange f n       the degree of f is n, 2 to the limit: what is left where refusal 1 is not given
---   Operand f n a     the same, and a is an element: what is left where refusal 4 is not given either
+--   InRange f n       the degree of f is n, 2 to 46 (`limit`): what is left if refusal 1 is not given
+--   Operand f n a     the same, and a is an element: what is left if refusal 4 is not given either
 --
 -- Assumes nothing.
 use mathlib.Core.Path.{_≡_}

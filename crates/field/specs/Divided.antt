@@ -1,7 +1,7 @@
 -- What refusal 2 says: `divided f n` holds exactly if some polynomial of a degree from 1 to n - 1 divides f, and fails exactly
 -- if f is irreducible. The smallest such divisor is irreducible, and its degree is at most half of n.
 -- Assumes nothing.
-use mathlib.Core.Path.{_≡_, refl, sym, ap, _∙_}
+use mathlib.Core.Path.{_≡_, sym, ap, _∙_}
 use mathlib.Core.Logic.{_⊎_, inl, inr, ⊎-elim, _↔_}
 use mathlib.Core.Bool.{Bool, true, false, _&&_}
 use Prim.Native.Nat.{ℕ, _+_, _*_, _^_, _≤_, _<_}

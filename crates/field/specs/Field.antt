@@ -1,8 +1,9 @@
--- The polynomials modulo f, of degree n: what document 01, "Two notations", says of them beyond multiplication.
+-- The polynomials modulo f, of degree n: conjugates and the trace (document 01, "Two notations"), and two notions that their laws need,
+-- powers and irreducible polynomials.
 -- Definitions alone; the laws stand in the files beside this one.
 --
 --   squared f n k a   a squared k times in a row: the conjugate c_k of a, where a is below 2 ^ n
---   powMod f n a e    the power of a with exponent e; c_k is the one with exponent 2 ^ k (`powMod-squared`)
+--   powMod f n a e    the power of a with exponent e; c_k is the one with exponent 2 ^ k, where a is below 2 ^ n (`powMod-squared`)
 --   trace f n a       the sum of all n conjugates, where a is below 2 ^ n
 --   Irreducible f     f is no product of two polynomials other than 1
 --

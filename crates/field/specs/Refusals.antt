@@ -2,10 +2,10 @@
 -- Definitions alone.
 --
 --   ..Rule         the rows 1 to 4
---   ..Order        the orders of the calls
+--   ..Order        the orders of the calls, and three parts of orders:
 --   elementOrder   4 alone
---   operandOrder   their first part, 1 and 4, which building and searching begin with too
---   fieldOrder     2 and 3, which every call that needs an accepted f tests together
+--   operandOrder   1, then 4: what every call on a polynomial and elements begins with
+--   fieldOrder     2, then 3: what every call that needs an accepted f tests
 --
 -- Assumes nothing.
 use mathlib.Core.Bool.{Bool, false, _||_}

@@ -37,7 +37,7 @@ pub fn operands_verdict(f: u64, a: u64, b: u64) -> Checked
     elements_verdict(degree_of(f), a, b)
 }
 
-// 1, then 4 for one operand.
+// 1, then 4 for one operand: it is judged as the same operand given twice.
 pub fn operand_verdict(f: u64, a: u64) -> Checked
     ensures { λ r. ⌜ r ≡ checkedOf (firstOf (operandOrder f (a ∷ []))) ⌝ }
 {

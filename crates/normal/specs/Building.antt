@@ -1,8 +1,8 @@
 -- Building a basis: what inversion answers for the conjugates of an element is what the definitions say of it. In order: whether it
 -- is normal; its dependency where it is not; its inverse rows and table rows where it is.
 -- Assumes nothing.
-use mathlib.Core.Path.{_≡_, refl, sym, ap₂, _∙_}
-use mathlib.Core.Bool.{Bool, true, false}
+use mathlib.Core.Path.{_≡_, sym, ap₂, _∙_}
+use mathlib.Core.Bool.{true, false}
 use mathlib.Core.List.{List}
 use Prim.Native.Nat.{ℕ, _^_, _≤_, _<_}
 use native.Mathlib.Omega.{arith}

@@ -8,7 +8,7 @@
 --     .result           what it returns
 --     .exit             the arguments once it has returned: what a lent slice holds then is `now` of it
 --   Determined c      any two results that the promise permits for the same arguments are equal
---   DeterminedWith c left   and any two last states of what it lends, which `left` picks
+--   DeterminedWith c left   and any two final states of what it lends, which `left` picks
 --   check, multiply, ..   the thirteen calls of the desk, the twelve exports, and the two that read a word
 --
 -- A theorem on every run of a call is one on what the call does. Definitions alone.

@@ -2,7 +2,7 @@
 -- lent. For each of the thirteen calls two theorems over the promise as the checker itself reads it, for all arguments:
 --
 --   ..-is           a run returns the call's answer, as a function of its arguments, and leaves in lent memory what the same function says
---   ..-determined   any two results, and any two last states of lent memory, that the promise permits are equal
+--   ..-determined   any two results, and any two final states of lent memory, that the promise permits are equal
 --
 -- So whatever `Demand2` and `Demand3` say of an answer they say of the call. In order: check, multiply, square, trace; build, read;
 -- to_polynomial, to_normal, times; list_to_polynomial, list_to_normal; search; listing. What is refused: `Refused`.

@@ -11,4 +11,3 @@ pub mod Matrices
 pub mod Performed
 pub mod Refused
 pub mod RefusedExports
-pub mod Verdicts

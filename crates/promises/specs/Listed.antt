@@ -17,7 +17,8 @@ use Rattle.field.specs.Refusals.{elementRule, multiplyOrder, squareOrder, trace
 use Rattle.sheet.specs.Record.{recordCount, conjugateIn, polynomialIn}
 use Rattle.sheet.specs.Orders.{recordRules, differRules, valueRules, listRule, shapeOrder, basisOrder, rebuiltFrom, buildOrder, readOrder, valueOrder, listOrder}
 use Rattle.search.specs.Answers.{searchOrder}
-use Rattle.promises.specs.Verdicts.{AtZero, Below, Every, numbersOf, every-append, every-also, listed-at-zero, at-zero-positive, below-positive}
+use Rattle.refusals.specs.Told.{AtZero, Below, Every, numbersOf}
+use Rattle.refusals.specs.Telling.{every-append, every-also, listed-at-zero, at-zero-positive, below-positive}
 
 -- ---- orders whose places are all 0
 

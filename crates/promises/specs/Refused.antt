@@ -4,7 +4,7 @@
 --                     with its place (`Listed`), and its condition is the first that applies; a refusal's other values are zero
 --   ..-unchanged      "every lent buffer and list stays as it came"
 --
--- `Told` stands in `Verdicts`; the exports in `RefusedExports`. Assumes nothing.
+-- `Told` stands in `refusals`; the exports in `RefusedExports`. Assumes nothing.
 use mathlib.Core.Path.{_≡_, refl, sym, _∙_}
 use mathlib.Core.Logic.{_↔_}
 use mathlib.Core.Bool.{true}
@@ -36,7 +36,8 @@ use Rattle.promises.specs.Calls as calls
 use Rattle.promises.specs.Calls.{Run}
 use Rattle.promises.specs.Demand1.{check-is, multiply-is, square-is, trace-is, build-is, read-is, to-polynomial-is, to-normal-is, times-is, list-to-polynomial-is, list-to-normal-is, search-is}
 use Rattle.promises.specs.Listed.{OnValue, OnList, OnReading, multiply-listed, square-listed, trace-listed, check-listed, build-listed, search-listed, value-listed, value-positive, list-listed, list-positive, read-listed, read-positive}
-use Rattle.promises.specs.Verdicts.{AtZero, Every, Told, ValueTold, CheckedTold, numberOf, placeOf, nonzero, placed-zero, at-zero-positive, told, value-told, checked-told}
+use Rattle.refusals.specs.Told.{AtZero, Every, Told, ValueTold, CheckedTold, numberOf, placeOf}
+use Rattle.refusals.specs.Telling.{nonzero, placed-zero, at-zero-positive, told, value-told, checked-told}
 
 -- ---- the answers of build, reading and the search, by the verdict of an order
 

@@ -36,7 +36,8 @@ use Rattle.promises.specs.Calls.{Run}
 use Rattle.promises.specs.Exports.{desk-check-is, desk-multiply-is, desk-square-is, desk-trace-is, desk-build-is, desk-read-is, desk-to-polynomial-is, desk-to-normal-is, desk-times-is, desk-list-to-polynomial-is, desk-list-to-normal-is, desk-search-is}
 use Rattle.promises.specs.Listed.{OnValue, OnList, OnReading, multiply-listed, square-listed, trace-listed, check-listed, build-listed, search-listed, value-listed, value-positive, list-listed, list-positive, read-listed, read-positive}
 use Rattle.promises.specs.Refused.{issue-told, done-searched, answered-number}
-use Rattle.promises.specs.Verdicts.{AtZero, Every, Told, numberOf, nonzero, placed-zero, at-zero-positive, told, report-told, done-value, done-checked}
+use Rattle.refusals.specs.Told.{AtZero, Every, Told, numberOf}
+use Rattle.refusals.specs.Telling.{nonzero, placed-zero, at-zero-positive, told, report-told, done-value, done-checked}
 
 -- ---- the structs
 

@@ -1,11 +1,11 @@
--- What a verdict gives a call: the case of its enum, document 01's number, place and value for each case, and the last state of lent
+-- What a verdict gives a call: the case of its enum, document 01's number, place and value for each case, and the final state of lent
 -- memory. Definitions alone.
 --
 --   refusalAt k p               the refusal with number k and place p
 --   answerOf refused done v     the case of a call's enum, whatever the enum is
 --   left v done came            what lent memory holds at the end
---   valueOf, checkedOf          the cases of the two enums that stand here
---   Report                      the paper's reading of an answer of one value, or of none
+--   valueOf, checkedOf          the cases of the two enums of this crate
+--   Report                      document 01's numbers for an answer of one value, or of none
 --   reportOf v x                the numbers that a verdict gives a call whose value is x
 --   valueReport, checkedReport  the numbers of a case
 --
@@ -32,7 +32,7 @@ unfoldable pub left : Verdict → (done came : List ℕ) → List ℕ
 left clear done came = done
 left (refuse k p) done came = came
 
--- ---- the paper's numbers
+-- ---- document 01's numbers
 
 pub record Report : Type 0 where
   pub number : ℕ

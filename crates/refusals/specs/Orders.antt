@@ -3,7 +3,6 @@
 --   first-applies, first-passes, first-none   the first condition applies; it does not; there is none
 --   first-clear                               what it takes to find nothing
 --   first-append                              an order in two parts; `part-refused`, `part-clear`, `parts-clear`
---   first-stands                              what is refused is a row of the order whose condition holds
 --
 -- Assumes nothing.
 use mathlib.Core.Path.{_≡_, refl, sym, ap, _∙_}
@@ -13,7 +12,7 @@ use mathlib.Core.List.{List, [], _∷_, _++_}
 use Prim.Native.Nat.{ℕ}
 use native.Mathlib.Omega.{arith}
 use Rattle.gf2.specs.Truth.{bool-cases}
-use Rattle.refusals.specs.Verdicts.{Rule, Verdict, clear, refuse, firstOf, andThen, StandsIn, here, later}
+use Rattle.refusals.specs.Verdicts.{Rule, Verdict, clear, refuse, firstOf, andThen}
 
 pub refuse-not-clear : (k p : ℕ) → refuse k p ≡ clear → ⊥
 refuse-not-clear k p e = let z : _≡_ {A = ℕ} 0 1 = cc in omega arith
@@ -70,16 +69,3 @@ module _ (xs ys : List Rule) where
       go : (v : Verdict) → firstOf xs ≡ v → andThen v (firstOf ys) ≡ clear → (firstOf xs ≡ clear) × (firstOf ys ≡ clear)
       go clear p q = (p, q)
       go (refuse k place) p q = absurd (refuse-not-clear k place q)
-
--- ---- what is refused
-
-pub first-stands : (rs : List Rule) (k p : ℕ) → firstOf rs ≡ refuse k p → StandsIn k p rs
-unfolding firstOf
-first-stands [] k p e = absurd (refuse-not-clear k p (sym e))
-first-stands (r ∷ rs) k p e = go (bool-cases (r .applies)) (first-stands rs k p)
-  where
-    go : (r .applies ≡ true) ⊎ (r .applies ≡ false) → (firstOf rs ≡ refuse k p → StandsIn k p rs) → StandsIn k p (r ∷ rs)
-    go (inl a) ih =
-        let q : refuse (r .number) (r .place) ≡ refuse k p = sym (first-applies r rs a) ∙ e in
-        here {r = r} (cc) (cc) a
-    go (inr a) ih = later {r = r} (ih (sym (first-passes r rs a) ∙ e))

@@ -5,11 +5,9 @@
 --   Verdict           what an order finds: nothing to refuse, or a number and a place
 --   firstOf order     "Each condition is tested only if none earlier in the call's order applied."
 --   andThen v w       the verdict of an order in two parts
---   StandsIn k p rs   a rule of the order has number k and place p, and its condition holds
 --
 -- Assumes nothing.
-use mathlib.Core.Path.{_≡_}
-use mathlib.Core.Bool.{Bool, true, cond}
+use mathlib.Core.Bool.{Bool, cond}
 use mathlib.Core.List.{List, [], _∷_}
 use Prim.Native.Nat.{ℕ}
 
@@ -30,7 +28,3 @@ firstOf (r ∷ rs) = cond (r .applies) (refuse (r .number) (r .place)) (firstOf 
 unfoldable pub andThen : Verdict → Verdict → Verdict
 andThen clear w = w
 andThen (refuse k p) w = refuse k p
-
-pub data StandsIn (k p : ℕ) : List Rule → Type 0 where
-  here : {r : Rule} {rs : List Rule} → r .number ≡ k → r .place ≡ p → r .applies ≡ true → StandsIn k p (r ∷ rs)
-  later : {r : Rule} {rs : List Rule} → StandsIn k p rs → StandsIn k p (r ∷ rs)

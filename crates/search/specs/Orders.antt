@@ -4,7 +4,7 @@
 use mathlib.Core.Path.{_≡_, refl, ap, _∙_}
 use mathlib.Core.Bool.{true, false, _||_}
 use mathlib.Core.List.{[], _∷_}
-use Prim.Native.Nat.{ℕ, _^_, _≤_, _<_}
+use Prim.Native.Nat.{ℕ, _≤_, _<_}
 use borrow.Author.Tests.{lt-ltb, le-ltb, ltb-false}
 use Rattle.gf2.specs.Poly.{degree}
 use Rattle.gf2.specs.Truth.{or-right}

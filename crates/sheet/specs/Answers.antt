@@ -1,7 +1,7 @@
--- What the calls on sheets answer: the case of the enum, document 01's numbers for each case, and the last state of lent memory.
+-- What the calls on sheets answer: the case of the enum, document 01's numbers for each case, and the final state of lent memory.
 -- Definitions alone.
 --
---   Issue                         the paper's reading of a built or read sheet
+--   Issue                         document 01's numbers for what build and reading answer
 --   issuedOf v s, issueOf v s     the case, and the numbers, that an order's verdict gives
 --   summaryOf f n a               "Build and reading answer n, complexity and grade."
 --   toPolynomial, toNormal        the two conversions of a value, by the rows as they stand
@@ -10,7 +10,7 @@
 --   builtBuffer, ..List           what the lent buffer and list hold at the end
 --
 -- Assumes nothing.
-use mathlib.Core.List.{List, [], _∷_, _++_, map}
+use mathlib.Core.List.{List, _++_, map}
 use Prim.Native.Nat.{ℕ}
 use lib.ListN.{length, drop}
 use Rattle.gf2.specs.Poly.{degree}
@@ -49,7 +49,8 @@ unfoldable pub issuedReport : Issued → Issue
 issuedReport (issued.Done s) = record { number = 0; place = 0; degree = s .degree; complexity = s .complexity; grade = gradeNumber (s .grade) }
 issuedReport (issued.Refused r) = record { number = r .number; place = r .place; degree = 0; complexity = 0; grade = 0 }
 
--- "Build and reading answer n, complexity and grade": of f, of degree n, the element a and its table
+-- "Build and reading answer n, complexity and grade": of f, of degree n, the element a and its table. Complexity and degree decide the
+-- grade, so f and a are named and not read.
 abbrev pub summaryWith : (f n a : ℕ) (table : List ℕ) → Summary
 summaryWith f n a table = record { degree = n; complexity = complexity table; grade = gradeOf n (complexity table) }
 
@@ -69,7 +70,7 @@ atFront sheet buffer = sheet ++ drop (length sheet) buffer
 unfoldable pub builtBuffer : (f a : ℕ) → List ℕ → List ℕ
 builtBuffer f a buffer = left (firstOf (buildOrder f a (length buffer))) (atFront (sheetBytes f (degree f) a) buffer) buffer
 
--- what the sheet itself names is summed up
+-- the summary of the polynomial and the element that a sheet names
 abbrev pub summaryIn : (sheet : List ℕ) → Summary
 summaryIn sheet = summaryOf (polynomialIn sheet) (recordCount sheet) (conjugateIn sheet 0)
 
@@ -101,6 +102,7 @@ normalAnswer sheet element = valueOf (firstOf (normalOrder sheet element)) (toNo
 unfoldable pub normalReport : (sheet : List ℕ) (element : ℕ) → Report
 normalReport sheet element = reportOf (firstOf (normalOrder sheet element)) (toNormal sheet element)
 
+-- "Bit k of a product of normal coordinates a and b is the sum modulo 2, over all i and j, of .."
 unfoldable pub throughTable : (sheet : List ℕ) (a b : ℕ) → ℕ
 throughTable sheet a b = tableProduct (recordCount sheet) (tableRowsIn sheet) a b
 
@@ -112,20 +114,20 @@ timesReport sheet a b = reportOf (firstOf (timesOrder sheet a b)) (throughTable 
 
 -- ---- lists: every value converted, or the list as it came
 
-unfoldable pub polynomialListAnswer : (sheet from : List ℕ) (into : ℕ) → Checked
-polynomialListAnswer sheet from into = checkedOf (firstOf (polynomialListOrder sheet from into))
+unfoldable pub polynomialListAnswer : (sheet from : List ℕ) (room : ℕ) → Checked
+polynomialListAnswer sheet from room = checkedOf (firstOf (polynomialListOrder sheet from room))
 
-unfoldable pub polynomialListReport : (sheet from : List ℕ) (into : ℕ) → Report
-polynomialListReport sheet from into = reportOf (firstOf (polynomialListOrder sheet from into)) 0
+unfoldable pub polynomialListReport : (sheet from : List ℕ) (room : ℕ) → Report
+polynomialListReport sheet from room = reportOf (firstOf (polynomialListOrder sheet from room)) 0
 
 unfoldable pub polynomialList : (sheet from into : List ℕ) → List ℕ
 polynomialList sheet from into = left (firstOf (polynomialListOrder sheet from (length into))) (map (toPolynomial sheet) from) into
 
-unfoldable pub normalListAnswer : (sheet from : List ℕ) (into : ℕ) → Checked
-normalListAnswer sheet from into = checkedOf (firstOf (normalListOrder sheet from into))
+unfoldable pub normalListAnswer : (sheet from : List ℕ) (room : ℕ) → Checked
+normalListAnswer sheet from room = checkedOf (firstOf (normalListOrder sheet from room))
 
-unfoldable pub normalListReport : (sheet from : List ℕ) (into : ℕ) → Report
-normalListReport sheet from into = reportOf (firstOf (normalListOrder sheet from into)) 0
+unfoldable pub normalListReport : (sheet from : List ℕ) (room : ℕ) → Report
+normalListReport sheet from room = reportOf (firstOf (normalListOrder sheet from room)) 0
 
 unfoldable pub normalList : (sheet from into : List ℕ) → List ℕ
 normalList sheet from into = left (firstOf (normalListOrder sheet from (length into))) (map (toNormal sheet) from) into

@@ -4,10 +4,10 @@ use mathlib.Core.Path.{_≡_, sym, ap, _∙_}
 use mathlib.Core.Bool.{false}
 use mathlib.Core.List.{List, [], _∷_}
 use Prim.Native.Nat.{ℕ, _^_, _<_}
-use Rattle.refusals.specs.Verdicts.{Verdict, clear, firstOf, andThen}
+use Rattle.refusals.specs.Verdicts.{clear, firstOf, andThen}
 use Rattle.refusals.specs.Orders.{first-append, part-clear, parts-clear}
 use Rattle.field.specs.Refusals.{elementOrder, anyTooLarge}
-use Rattle.field.specs.Orders.{element-twice, one-small, both-small, element-clear}
+use Rattle.field.specs.Orders.{element-twice, both-small, element-clear}
 use Rattle.sheet.specs.Record.{recordCount}
 use Rattle.sheet.specs.Orders.{shapeOrder, valueOrder, Shaped}
 use Rattle.sheet.specs.Clear.{clear-shaped}

@@ -13,7 +13,7 @@ use native.Mathlib.Omega.{arith}
 use lib.Dec.{ltb, eqb}
 use lib.ListN.{length, getD, set, take, drop, drop-of-length-le, length-append, length-drop}
 use lib.Seq.{drop-cons, set-at, getD-at, take-suc, append-snoc, take-all}
-use borrow.Author.Tests.{lt-ltb, le-ltb, eq-eqb, ne-eqb, eqb-true, not-false}
+use borrow.Author.Tests.{lt-ltb, le-ltb, eq-eqb, ne-eqb, ltb-false, eqb-true, not-false}
 use Rattle.gf2.specs.Truth.{or-false}
 use Rattle.refusals.specs.Verdicts.{clear, refuse, firstOf}
 use Rattle.refusals.specs.Orders.{first-applies, first-passes, first-clear, parts-clear}
@@ -90,7 +90,7 @@ list-judged sheet from into e =
     let l = first-clear (listRule (length from) into) (valueRules (recordCount sheet) 0 from) (s .1) in
     let d = or-false (not (eqb (length from) into)) (ltb listLimit (length from)) (l .0) in (
       clear-shaped sheet (s .0),
-      record { lengths = eqb-true (length from) into (not-false (eqb (length from) into) (d .0)); values = values-small (recordCount sheet) 0 from (l .1) },
+      record { lengths = eqb-true (length from) into (not-false (eqb (length from) into) (d .0)); most = ltb-false listLimit (length from) (d .1); values = values-small (recordCount sheet) 0 from (l .1) },
     )
 
 -- ---- filling the list

@@ -1,9 +1,10 @@
--- The refusals of the calls on sheets (document 01, "Refusal numbers"): the rows 5 to 11 of the table, and the orders of build, reading,
--- converting and multiplying. Definitions alone.
+-- The refusals of the calls on sheets (document 01, "Refusal numbers"): the rows 5 to 11 of the table, row 4 for a list, and the orders of
+-- build, reading, converting and multiplying. Definitions alone.
 --
 --   ..Rule, ..Rules   the rows of the table; those that go record by record, or value by value
 --   ..Order           the orders of the calls, and parts of them
---   Sized, Shaped     what conditions 7 to 9 leave of a sheet where none of them applies; `Listed`: 11 and 4 of a list
+--   Sized, Shaped     what is left of a sheet if none of 7 to 9 applies
+--   Listed            what is left of a list if neither 11 nor 4 applies
 --
 -- Assumes nothing.
 use mathlib.Core.Path.{_≡_}
@@ -55,13 +56,14 @@ recordRules sheet i (suc k) =
     ∷ record { number = 9; place = i; applies = oversized sheet i }
     ∷ recordRules sheet (i + 1) k
 
--- "a record differs from the one rebuilt"
+-- two lists of bytes are equal
 unfoldable pub same : List ℕ → List ℕ → Bool
 same [] [] = true
 same [] (y ∷ ys) = false
 same (x ∷ xs) [] = false
 same (x ∷ xs) (y ∷ ys) = eqb x y && same xs ys
 
+-- "a record differs from the one rebuilt": "first such record"
 unfoldable pub differRules : (sheet rebuilt : List ℕ) (i k : ℕ) → List Rule
 differRules sheet rebuilt i zero = []
 differRules sheet rebuilt i (suc k) =
@@ -72,8 +74,8 @@ abbrev pub listLimit : ℕ
 listLimit = 4096
 
 -- "list lengths differ or exceed 4,096"
-abbrev pub listRule : (from into : ℕ) → Rule
-listRule from into = record { number = 11; place = 0; applies = not (eqb from into) || ltb listLimit from }
+abbrev pub listRule : (values room : ℕ) → Rule
+listRule values room = record { number = 11; place = 0; applies = not (eqb values room) || ltb listLimit values }
 
 -- "an element, coordinate number .. is 2^n or more": "first such index in a list", counted from i
 unfoldable pub valueRules : (n i : ℕ) → List ℕ → List Rule
@@ -82,7 +84,7 @@ valueRules n i (v ∷ vs) = record { number = 4; place = i; applies = tooLarge n
 
 -- ---- the orders
 
--- all of build's but the last, which the basis decides
+-- build's order up to its last condition, which is decided when the basis is built
 abbrev pub roomOrder : (f a room : ℕ) → List Rule
 roomOrder f a room = operandOrder f (a ∷ []) ++ (roomRule (degree f) room ∷ fieldOrder f)
 
@@ -98,10 +100,11 @@ shapeOrder sheet = lengthRule sheet ∷ recordRules sheet 0 (recordCount sheet)
 abbrev pub basisOrder : (f n a : ℕ) → List Rule
 basisOrder f n a = fieldOrder f ++ (normalRule f n a ∷ [])
 
+-- the sheet that the polynomial and the record 0 conjugate of a sheet give
 abbrev pub rebuiltFrom : (sheet : List ℕ) → List ℕ
 rebuiltFrom sheet = sheetBytes (polynomialIn sheet) (recordCount sheet) (conjugateIn sheet 0)
 
--- the same, "then 10"
+-- "2, 3, 5 .., then 10": what rebuilding a sheet and comparing it can find
 abbrev pub rebuildOrder : (sheet : List ℕ) → List Rule
 rebuildOrder sheet =
     basisOrder (polynomialIn sheet) (recordCount sheet) (conjugateIn sheet 0) ++ differRules sheet (rebuiltFrom sheet) 0 (recordCount sheet)
@@ -124,14 +127,14 @@ abbrev pub timesOrder : (sheet : List ℕ) (a b : ℕ) → List Rule
 timesOrder sheet a b = valueOrder sheet (a ∷ b ∷ [])
 
 -- "Convert a list: the same, with 11 before 4."
-abbrev pub listOrder : (sheet from : List ℕ) (into : ℕ) → List Rule
-listOrder sheet from into = shapeOrder sheet ++ (listRule (length from) into ∷ valueRules (recordCount sheet) 0 from)
+abbrev pub listOrder : (sheet from : List ℕ) (room : ℕ) → List Rule
+listOrder sheet from room = shapeOrder sheet ++ (listRule (length from) room ∷ valueRules (recordCount sheet) 0 from)
 
-abbrev pub polynomialListOrder : (sheet from : List ℕ) (into : ℕ) → List Rule
-polynomialListOrder sheet from into = listOrder sheet from into
+abbrev pub polynomialListOrder : (sheet from : List ℕ) (room : ℕ) → List Rule
+polynomialListOrder sheet from room = listOrder sheet from room
 
-abbrev pub normalListOrder : (sheet from : List ℕ) (into : ℕ) → List Rule
-normalListOrder sheet from into = listOrder sheet from into
+abbrev pub normalListOrder : (sheet from : List ℕ) (room : ℕ) → List Rule
+normalListOrder sheet from room = listOrder sheet from room
 
 -- ---- what is left where no condition applies
 
@@ -147,7 +150,8 @@ pub record Shaped (sheet : List ℕ) : Type 0 where
   pub places : (i : ℕ) → i < recordCount sheet → misplaced sheet i ≡ false
   pub small : (i : ℕ) → i < recordCount sheet → oversized sheet i ≡ false
 
--- after 11 and 4, for a list that is converted into one of a given length
-pub record Listed (n : ℕ) (from : List ℕ) (into : ℕ) : Type 0 where
-  pub lengths : length from ≡ into
+-- after 11 and 4, for a list whose destination has room for so many values
+pub record Listed (n : ℕ) (from : List ℕ) (room : ℕ) : Type 0 where
+  pub lengths : length from ≡ room
+  pub most : length from ≤ listLimit
   pub values : (i : ℕ) → i < length from → getD from i 0 < 2 ^ n

@@ -1,20 +1,19 @@
 -- Rebuilding a sheet that has its shape: what its polynomial and its record 0 conjugate are, and the sheet that they give.
 -- Assumes nothing.
-use mathlib.Core.Path.{_≡_, sym, ap, _∙_}
-use mathlib.Core.List.{List, _++_}
+use mathlib.Core.Path.{_≡_, ap, _∙_}
+use mathlib.Core.List.{List}
 use Prim.Native.Nat.{ℕ, _+_, _*_, _%_, _^_, _≤_, _<_}
 use native.Mathlib.Omega.{arith}
 use lib.ListN.{length, drop, length-append}
 use lib.Pow.{pow-mono}
 use Rattle.field.specs.Accepted.{InRange, Operand}
-use Rattle.sheet.specs.Record.{recordSize, recordCount, tailIn, polynomialIn, tailOf, recordsTo, sheetBytes}
+use Rattle.sheet.specs.Record.{recordSize, recordCount, tailIn, polynomialIn, tailOf, sheetBytes}
 use Rattle.sheet.specs.Orders.{rebuiltFrom, Shaped}
 use Rattle.sheet.specs.Answers.{summaryOf, summaryIn, atFront}
 use Rattle.sheet.specs.Writing.{recordsTo-length}
 use Rattle.sheet.specs.Basis.{power-word}
 use Rattle.sheet.specs.Clear.{columns-lt, polynomial-degree}
 use Rattle.sheet.specs.Reading.{Rebuilt, firstDiffering, differing-front}
-use Rattle.sheet.specs.declared.answer.Summary.{Summary}
 
 pub sheetBytes-length : (f n a : ℕ) → length (sheetBytes f n a) ≡ recordSize * n
 unfolding sheetBytes

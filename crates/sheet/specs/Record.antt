@@ -1,14 +1,14 @@
 -- The sheet file (document 01, "Sheet file"): "Records of 32 bytes, no header, n records, in row order. Numbers are little-endian."
 -- Definitions alone. A sheet is a list of bytes.
 --
---   recordSize, ..At, ..Size      the layout, each number once
+--   recordSize, degreeAt, ..      the layout, each number once; "tail" is f without its term x^n
 --   bytesOf k v, numberIn bytes   a number as k bytes, and the number that bytes hold
 --   recordBytes ..                one record
 --   recordsTo k ..                the first k records
---   sheetBytes f n a              the sheet of f, of degree n, and the element a
---   ..In sheet i                  the columns of record i, as they stand
---   ..RowsIn sheet                one column from record to record: the rows of a matrix
---   recordAt sheet i              the bytes of record i
+--   sheetBytes f n a              the sheet of f, accepted and of degree n, and the normal element a
+--   degreeIn sheet i, ..          the columns of record i, as they stand; `recordAt sheet i`: its bytes
+--   conjugateRowsIn sheet, ..     one column from record to record: the rows of a matrix
+--   recordCount, polynomialIn     how many records a sheet has, and the polynomial that its record 0 names
 --
 -- Assumes nothing.
 use mathlib.Core.List.{List, [], _∷_, _++_}

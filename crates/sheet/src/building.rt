@@ -1,4 +1,4 @@
-// The public call build.
+// The public call build, and the sheet of a basis, which reading rebuilds with too.
 ghost use mathlib.Core.Path.{_≡_};
 ghost use mathlib.Core.List.{[], _∷_};
 ghost use Prim.Native.Nat.{_*_, _≤_};
@@ -29,7 +29,7 @@ use refusals::Checked;
 use refusals::Refusal;
 use refusals::refused;
 
-// "Build and reading answer n, complexity and grade": of f, of degree n, the element and its table.
+// "Build and reading answer n, complexity and grade": of f, of degree n, the element and its table. Degree and complexity decide the grade.
 fn summary_of(f: u64, n: u32, element: u64, table: [u64; LIMIT]) -> Summary
     requires { ⌜ InRange f n ⌝ }
     ensures { λ r. ⌜ r ≡ summaryWith f n element (take n table) ⌝ }
@@ -42,7 +42,7 @@ fn summary_of(f: u64, n: u32, element: u64, table: [u64; LIMIT]) -> Summary
     }
 }
 
-// The sheet of a basis, at the buffer's front, and its summary. Reading rebuilds with it too.
+// The sheet of a basis, at the buffer's front, and its summary.
 pub fn put_basis(buffer: &mut [u8], f: u64, n: u32, element: u64, basis: Basis) -> Summary
     requires { ⌜ InRange f n × (recordSize * n ≤ length (now buffer)) ⌝ }
     ensures summary { λ r. ⌜ r ≡ summaryWith f n element (take n (basis .table)) ⌝ }

@@ -31,7 +31,7 @@ fn values_verdict(sheet: &[u8], a: u64, b: u64) -> Checked
     }
 }
 
-// The shape, then 4 for one number.
+// The shape, then 4 for one number: it is judged as the same number given twice.
 fn value_verdict(sheet: &[u8], value: u64) -> Checked
     ensures { λ r. ⌜ r ≡ checkedOf (firstOf (valueOrder (now (sheet .entry)) (value ∷ []))) ⌝ }
 {

@@ -1,4 +1,4 @@
-// The public calls that convert lists. A list is written only when every value of it is good.
+// The public calls that convert lists. A destination is written only if every value of its source is good.
 ghost use mathlib.Core.Path.{_≡_};
 ghost use mathlib.Core.List.{_∷_, map};
 ghost use Prim.Native.Nat.{ℕ, _+_, _^_, _≤_, _<_};
@@ -29,7 +29,7 @@ use rows::sum_by_bytes;
 // The most values that a list may have.
 pub const LIST_LIMIT: usize = 4096;
 
-// The number of values from which on the sums are taken from tables. Making the tables takes as long as summing bit by bit takes for a dozen
+// A list of so many values or more takes its sums from tables. Making the tables takes as long as summing bit by bit takes for a dozen
 // values at degree 46, for 48 at degree 10, and for more at smaller degrees.
 const TABLES_PAY: usize = 48;
 
@@ -48,7 +48,7 @@ fn first_too_large(n: u32, values: &[u64]) -> usize
     i
 }
 
-// The list from, copied into the list into, where it is then converted.
+// The list `from`, copied into the list `into`, where it is then converted.
 fn copy(from: &[u64], into: &mut [u64])
     requires { ⌜ length (now from) ≡ length (now into) ⌝ }
     ensures { λ r. ⌜ now (into .exit) ≡ now (from .entry) ⌝ }
@@ -96,7 +96,7 @@ fn convert_values(rows: [u64; LIMIT], list: &mut [u64])
     }
 }
 
-// The list from, converted by the rows of one column into the list into.
+// The list `from`, converted by the rows of one column into the list `into`.
 fn convert_list(sheet: &[u8], at: usize, from: &[u64], into: &mut [u64])
     requires { ⌜ Shaped (now sheet) × (at + wordSize ≤ recordSize) × Listed (recordCount (now sheet)) (now from) (length (now into)) ⌝ }
     ensures { λ r. ⌜ now (into .exit) ≡ map (comb (rowsIn (now (sheet .entry)) at)) (now (from .entry)) ⌝ }

@@ -1,6 +1,6 @@
 -- `field::calls::check` meets its contract: 1, then 2 and 3.
 -- Assumes nothing.
-use mathlib.Core.Path.{_≡_, sym, ap, _∙_}
+use mathlib.Core.Path.{sym, ap, _∙_}
 use borrow.Author.Needs.{needs}
 use Rattle.refusals.specs.Verdicts.{firstOf}
 use Rattle.refusals.specs.Answers.{checkedOf}

@@ -1,6 +1,6 @@
 -- `field::calls::multiply` meets its contract: it judges, and then works.
 -- Assumes nothing.
-use mathlib.Core.Path.{_≡_, ap, _∙_}
+use mathlib.Core.Path.{ap, _∙_}
 use Prim.Native.Nat.{ℕ}
 use borrow.Author.Needs.{needs}
 use Rattle.gf2.specs.Poly.{mulMod}

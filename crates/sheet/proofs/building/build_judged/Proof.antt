@@ -3,7 +3,6 @@
 use mathlib.Core.Path.{ap, _∙_}
 use mathlib.Core.List.{[]}
 use borrow.Author.Needs.{needs}
-use native.Mathlib.Omega.{arith}
 use Rattle.refusals.specs.Orders.{first-none}
 use Rattle.refusals.specs.Answered.{answer-refused, answer-clear, left-refused, left-clear}
 use Rattle.sheet.specs.Basis.{normal-refused, normal-passed, normal-rows, sheet-written, summary-table}

@@ -1,15 +1,13 @@
 -- `sheet::reading::compared` meets its contract: the first record that differs decides.
 -- Assumes nothing.
 use mathlib.Core.Path.{_≡_, sym, ap, _∙_}
-use mathlib.Core.List.{List}
-use Prim.Native.Nat.{ℕ}
 use native.Mathlib.Omega.{arith}
 use borrow.Author.Needs.{needs}
 use Rattle.refusals.specs.Answered.{answer-refused, answer-clear}
 use Rattle.refusals.specs.Verdicts.{refuse, firstOf}
 use Rattle.sheet.specs.Orders.{differRules, rebuiltFrom}
 use Rattle.sheet.specs.Basis.{sheet-written, summary-table}
-use Rattle.sheet.specs.Reading.{firstDiffering, differ-verdict, same-verdict}
+use Rattle.sheet.specs.Reading.{differ-verdict, same-verdict}
 use Rattle.sheet.specs.Rebuilding.{rebuilt-element, rebuilt-summary, rebuilt-differing, rebuilt-room}
 use Rattle.sheet.specs.declared.answer.Issued.the-variants as issued
 use Rattle.sheet.proofs.reading.compared.Statement.{statement}

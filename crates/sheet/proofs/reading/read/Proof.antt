@@ -1,6 +1,6 @@
 -- `sheet::reading::read` meets its contract: the shape, then the sheet rebuilt.
 -- Assumes nothing.
-use mathlib.Core.Path.{_≡_, sym, ap, _∙_}
+use mathlib.Core.Path.{sym, ap, _∙_}
 use borrow.Author.Needs.{needs}
 use Rattle.refusals.specs.Verdicts.{Verdict, firstOf}
 use Rattle.refusals.specs.Answered.{answer-refused, judged-clear, part-refuses, part-passes}

@@ -11,7 +11,7 @@ use Rattle.refusals.specs.Answered.{answer-refused, part-refuses, part-passes}
 use Rattle.refusals.specs.declared.answer.Checked.{Checked}
 use Rattle.field.specs.Refusals.{fieldOrder}
 use Rattle.sheet.specs.Record.{recordCount, columnIn, conjugateIn, polynomialIn}
-use Rattle.sheet.specs.Orders.{Shaped, normalRule, differRules, rebuiltFrom, rebuildOrder}
+use Rattle.sheet.specs.Orders.{normalRule, differRules, rebuiltFrom, rebuildOrder}
 use Rattle.sheet.specs.Answers.{summaryIn, issuedOf}
 use Rattle.sheet.specs.Rebuilding.{shaped-range}
 use Rattle.sheet.specs.declared.answer.Issued.{Issued}

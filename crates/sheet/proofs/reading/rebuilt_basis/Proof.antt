@@ -1,6 +1,6 @@
 -- `sheet::reading::rebuilt_basis` meets its contract: 5, then 10.
 -- Assumes nothing.
-use mathlib.Core.Path.{_≡_, sym, ap, _∙_}
+use mathlib.Core.Path.{sym, ap, _∙_}
 use Rattle.refusals.specs.Verdicts.{Verdict}
 use Rattle.refusals.specs.Answered.{answer-refused}
 use Rattle.sheet.specs.Orders.{differRules, rebuiltFrom}

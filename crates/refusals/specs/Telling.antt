@@ -1,13 +1,10 @@
--- What the verdict of an order says of the order, and of the numbers that a call hands out for it. Nothing here speaks of one call.
+-- A call that hands out the number and the place of its order's verdict, and zeros where that refuses, keeps what `Told` says.
 --
---   First k p rs         the first rule of rs that applies has the number k and the place p
---   In k ks              k is one of ks
---   AtZero ks k p        k is one of ks, and the place p is 0
---   Below ks m k p       k is one of ks, and the place p is below m
---   Every P rs           P holds of the number and the place of every rule of rs
---   AllZero values       each of the values is 0
---   Told rs P Done number place values   what document 01, "Refusal numbers", says of the numbers of a call with the order rs
---   ValueTold rs P r, CheckedTold rs P r   the same of an answer r
+--   first-found, found-first    a verdict refuses with the number and the place of the first rule that applies
+--   every-..                    what holds of every rule of an order holds of the one that is found
+--   listed-at-zero, ..-positive   the numbers of an order are its own, and none of them is 0
+--   told                        a call, by the number, the place and the values that it hands out
+--   report-told, value-told, checked-told   the same for a report, and for the two enums of this crate
 --
 -- Assumes nothing.
 use mathlib.Core.Path.{_≡_, refl, sym, ap, _∙_}
@@ -18,73 +15,13 @@ use Prim.Native.Nat.{ℕ, _<_}
 use native.Mathlib.Omega.{arith}
 use lib.Dec.{ltb}
 use borrow.Author.Tests.{ltb-true}
-use Rattle.refusals.specs.Answers.{answerOf, reportOf, valueOf, valueReport, checkedOf, checkedReport}
+use Rattle.refusals.specs.Verdicts.{Rule, Verdict, clear, refuse, firstOf}
+use Rattle.refusals.specs.Answers.{answerOf, reportOf, valueOf, checkedOf}
 use Rattle.refusals.specs.Answered.{value-report, checked-report}
 use Rattle.refusals.specs.Orders.{refuse-not-clear, first-applies, first-passes}
-use Rattle.refusals.specs.Verdicts.{Rule, Verdict, clear, refuse, firstOf}
-use Rattle.refusals.specs.declared.answer.Value.{Value}
+use Rattle.refusals.specs.Told.{numberOf, placeOf, First, here, later, In, AtZero, Below, Every, numbersOf, placesOf, AllZero, Told, ValueTold, CheckedTold}
 use Rattle.refusals.specs.declared.answer.Value.the-variants as value
-use Rattle.refusals.specs.declared.answer.Checked.{Checked}
 use Rattle.refusals.specs.declared.answer.Checked.the-variants as checked
-
--- "Done is 0 with place 0."
-unfoldable pub numberOf : Verdict → ℕ
-numberOf clear = 0
-numberOf (refuse k p) = k
-
-unfoldable pub placeOf : Verdict → ℕ
-placeOf clear = 0
-placeOf (refuse k p) = p
-
--- "Each condition is tested only if none earlier in the call's order applied."
-pub data First (k p : ℕ) : List Rule → Type 0 where
-  here : {r : Rule} {rs : List Rule} → r .number ≡ k → r .place ≡ p → r .applies ≡ true → First k p (r ∷ rs)
-  later : {r : Rule} {rs : List Rule} → r .applies ≡ false → First k p rs → First k p (r ∷ rs)
-
--- ---- the numbers and places of an order
-
-abbrev pub In : ℕ → List ℕ → Type 0
-In k [] = ⊥
-In k (x ∷ xs) = (k ≡ x) ⊎ In k xs
-
-abbrev pub AtZero : (numbers : List ℕ) → ℕ → ℕ → Type 0
-AtZero ks k p = In k ks × (p ≡ 0)
-
-abbrev pub Below : (numbers : List ℕ) (bound : ℕ) → ℕ → ℕ → Type 0
-Below ks m k p = In k ks × (p < m)
-
-abbrev pub Every : (ℕ → ℕ → Type 0) → List Rule → Type 0
-Every P [] = Unit {0}
-Every P (r ∷ rs) = P (r .number) (r .place) × Every P rs
-
-abbrev pub numbersOf : List Rule → List ℕ
-numbersOf rs = map (λ (r : Rule). r .number) rs
-
-abbrev pub placesOf : List Rule → List ℕ
-placesOf rs = map (λ (r : Rule). r .place) rs
-
--- ---- what a call hands out
-
-abbrev pub AllZero : List ℕ → Type 0
-AllZero [] = Unit {0}
-AllZero (x ∷ xs) = (x ≡ 0) × AllZero xs
-
-pub record Told (rs : List Rule) (P : ℕ → ℕ → Type 0) (Done : Type 0) (number place : ℕ) (values : List ℕ) : Type 0 where
-  -- "Done is 0 with place 0."
-  pub done : (number ≡ 0) ↔ Done
-  pub done-place : number ≡ 0 → place ≡ 0
-  -- a number that is given stands in the order, where the table has its place
-  pub listed : 0 < number → P number place
-  -- "given exactly when": its condition is the first that applies
-  pub applies : 0 < number → First number place rs
-  -- "A refusal's other values are zero"
-  pub zero : 0 < number → AllZero values
-
-abbrev pub ValueTold : (rs : List Rule) → (ℕ → ℕ → Type 0) → Value → Type 0
-ValueTold rs P r = Told rs P ((x : ℕ) × (r ≡ value.Done x)) (valueReport r .number) (valueReport r .place) (valueReport r .value ∷ [])
-
-abbrev pub CheckedTold : (rs : List Rule) → (ℕ → ℕ → Type 0) → Checked → Type 0
-CheckedTold rs P r = Told rs P (r ≡ checked.Done) (checkedReport r .number) (checkedReport r .place) (checkedReport r .value ∷ [])
 
 -- ---- along an order
 
