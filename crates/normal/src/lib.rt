@@ -5,7 +5,6 @@ mod grade;
 mod product;
 
 pub use basis::Basis;
-pub use basis::Built;
 pub use basis::build_basis;
 pub use grade::Grade;
 pub use grade::complexity_of;

@@ -9,6 +9,5 @@ pub use bits::power;
 pub use by_bytes::BYTE_SUMS;
 pub use by_bytes::byte_sums;
 pub use by_bytes::sum_by_bytes;
-pub use inversion::Inverted;
 pub use inversion::invert;
 pub use sums::sum;
