@@ -1,4 +1,4 @@
--- Sheets: definitions in `Record`, `Orders`, `Answers`, laws in the rest.
+-- Sheets: definitions in `Record`, `Orders`, `Answers` and `Sheets`, laws in the rest.
 pub mod Record
 pub mod Orders
 pub mod Answers
