@@ -63,7 +63,12 @@ squared-times-requires c κs =
       s .pre .0,
       record {
         in-range = s .pre .1;
-        small = half-lt (s .args .f) (s .args .n) (s .pre .1 .is-degree) (sym (h .squared-half .ensures .0) ∙ c .if1 .left) _ (h .squared-half .ensures .1) (s .pre .1 .two);
+        small =
+            omega (
+              arith,
+              half-lt (s .args .f) (s .args .n) (s .pre .1 .is-degree) (sym (h .squared-half .ensures .0) ∙ c .if1 .left) (h .squared-half .result .conjugate) (h .squared-half .ensures .1) (s .pre .1 .two),
+              two-lt (s .args .n) (s .pre .1 .two),
+            );
       },
     )
 

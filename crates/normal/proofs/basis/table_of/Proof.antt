@@ -46,7 +46,7 @@ array-read-multiply c = omega (arith, c .before .before .before .pre .0)
 multiply-requires : tie.Need-multiply-requires Inv-loop μ-loop
 multiply-requires c κs =
     let s = c .before .before .before in
-    record { is-degree = s .pre .1; below = s .pre .2 .row-lt 0 }
+    record { is-degree = s .pre .1; below = s .pre .2 .row-lt _ }
 
 sum-requires : tie.Need-sum-requires Inv-loop μ-loop
 sum-requires c κs =

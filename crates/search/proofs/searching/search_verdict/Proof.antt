@@ -2,10 +2,10 @@
 -- Assumes nothing.
 use mathlib.Core.List.{[], _∷_}
 use borrow.Author.Needs.{needs}
-use Rattle.refusals.specs.Verdicts.{firstOf}
+use Rattle.refusals.specs.Orders.{first-clear}
 use Rattle.refusals.specs.Answered.{judged-clear, then-refused, then-rest}
-use Rattle.field.specs.Refusals.{operandOrder, fieldOrder}
-use Rattle.field.specs.Orders.{operands-judged}
+use Rattle.field.specs.Refusals.{degreeRule, operandOrder, fieldOrder}
+use Rattle.field.specs.Orders.{in-range}
 use Rattle.search.specs.Answers.{rangeRule}
 use Rattle.search.proofs.searching.search_verdict.Statement.{statement}
 use Rattle.search.proofs.searching.search_verdict.Tie as tie
@@ -28,8 +28,7 @@ range-verdict-requires c κs =
     let o = e .before .before in
     let s = o .before in (
       s .pre,
-      operands-judged (s .args .f) (c .degree-of .result) (s .args .first) (c .degree-of .ensures) (s .args .last)
-          (judged-clear (firstOf (operandOrder (s .args .f) (s .args .first ∷ s .args .last ∷ []))) (o .operands-verdict .ensures) (e .enum-told .given .1)) .0 .in-range,
+      in-range (s .args .f) (c .degree-of .result) (c .degree-of .ensures) (first-clear (degreeRule (s .args .f)) _ (judged-clear _ (o .operands-verdict .ensures) (e .enum-told .given .1)) .0),
     )
 
 returns : tie.Need-returns

@@ -2,7 +2,9 @@
 -- Assumes nothing.
 use mathlib.Core.Path.{ap, _∙_}
 use mathlib.Core.List.{[]}
+use native.Mathlib.Omega.{arith}
 use borrow.Author.Needs.{needs}
+use lib.Pow.{pow-mono}
 use Rattle.refusals.specs.Orders.{first-none}
 use Rattle.refusals.specs.Answered.{answer-refused, answer-clear, left-refused, left-clear}
 use Rattle.sheet.specs.Basis.{normal-refused, normal-passed, normal-rows, sheet-written, summary-table}
@@ -13,7 +15,7 @@ use Rattle.sheet.proofs.building.build_judged.Tie as tie
 build-basis-requires : tie.Need-build-basis-requires
 build-basis-requires c κs =
     let e = c .before .pre .1 in
-    (c .before .pre .0, e .in-range .most, record { is-degree = e .in-range .is-degree; below = e .small })
+    (c .before .pre .0, e .in-range .most, record { is-degree = e .in-range .is-degree; below = omega (arith, e .small, pow-mono (e .in-range .two)) })
 
 returns : tie.Need-returns
 returns c =

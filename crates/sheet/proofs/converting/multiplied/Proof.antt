@@ -33,8 +33,8 @@ product-of-requires c κs =
       one = omega (arith, z .size .two);
       most = z .size .most;
       table = loaded-matrix (tableRowsIn sheet) (recordCount sheet) (c .load-rows .ensures) (table-matrix sheet z);
-      left = s .pre .1;
-      right = s .pre .2;
+      left = omega (arith, s .pre .1);
+      right = omega (arith, s .pre .1, s .pre .2);
     }
 
 returns : tie.Need-returns
