@@ -19,15 +19,17 @@ use Rattle.listing.specs.Putting.{Put, put-none, put-then, put-mark}
 
 -- ---- a number
 
--- a number of 64 bits has at most so many digits
-pub digits-few : (v k : ℕ) → v < 2 ^ 64 → Fewest 10 1 v k → k ≤ numberPlaces
-digits-few v k h f =
+-- a number below the power of the base has at most as many digits as the exponent says
+pub few-digits : (b p v k : ℕ) → 1 < b → 0 < p → v < b ^ p → Fewest b 1 v k → k ≤ p
+few-digits b p v k base some h f =
     ⊎-elim
-    (λ (u : k < numberRoom). omega arith)
-    (λ (u : numberRoom ≤ k).
-    let m : 10 ^ numberPlaces ≤ 10 ^ (k - 1) = pow-le-pow-right (omega arith) {i = numberPlaces} {j = k - 1} (omega arith) in
-    absurd (omega (arith, f .2 (omega arith))))
-    (order k numberRoom)
+    (λ (u : k < p + 1). omega arith)
+    (λ (u : p + 1 ≤ k). let m : b ^ p ≤ b ^ (k - 1) = pow-le-pow-right (omega arith) {i = p} {j = k - 1} (omega arith) in absurd (omega (arith, f .2 (omega arith))))
+    (order k (p + 1))
+
+-- a number of 64 bits has at most so many decimal digits
+pub digits-few : (v k : ℕ) → v < 2 ^ 64 → Fewest 10 1 v k → k ≤ numberPlaces
+digits-few v k h f = few-digits 10 numberPlaces v k (omega arith) (omega arith) (omega arith) f
 
 module _ (start spelled b : List ℕ) (at v k m mark : ℕ) (small : v < 2 ^ 64) (fewest : Fewest 10 1 v k) (spells : take k spelled ≡ digits 10 k v)
     (counts : Counts k spelled) (put : Put start at (take k spelled) b m) (fits : at + numberRoom ≤ length start) where

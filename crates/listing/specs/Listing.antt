@@ -9,27 +9,15 @@ use lib.ListN.{length, drop, length-append}
 use lib.Seq.{take-append-seam}
 use Rattle.io.specs.Counts.{Counts}
 use Rattle.gf2.specs.Limit.{limit}
-use Rattle.refusals.specs.Verdicts.{firstOf}
 use Rattle.refusals.specs.declared.answer.Refusal.{Refusal}
 use Rattle.normal.specs.Grades.{gradeNumber}
-use Rattle.refusals.specs.Orders.{parts-clear}
 use Rattle.sheet.specs.Record.{recordCount}
-use Rattle.sheet.specs.Orders.{shapeOrder, rebuildOrder, readOrder, Sized}
-use Rattle.sheet.specs.Answers.{summaryIn, readAnswer}
-use Rattle.sheet.specs.Answered.{done-clear}
-use Rattle.sheet.specs.Clear.{clear-shaped}
+use Rattle.sheet.specs.Answers.{readAnswer}
 use Rattle.sheet.specs.declared.answer.Summary.{Summary}
 use Rattle.sheet.specs.declared.answer.Issued.the-variants as issued
 use Rattle.listing.specs.Text.{rowLines, lastLine, refusedLine, listingBy, listingOf}
 use Rattle.listing.specs.Room.{rowRoom, lastRoom, refusedRoom, listingRoom}
 use Rattle.listing.specs.Putting.{Put, put-then, put-front}
-
--- ---- a sheet that reading finds good has 2 to 46 records
-
-pub done-sized : (sheet : List ℕ) (s : Summary) → readAnswer sheet ≡ issued.Done s → Sized sheet
-unfolding readAnswer
-done-sized sheet s e =
-    clear-shaped sheet (parts-clear (shapeOrder sheet) (rebuildOrder sheet) (done-clear (firstOf (readOrder sheet)) (summaryIn sheet) s e) .0) .size
 
 -- ---- each listing fits into its room
 

@@ -3,5 +3,8 @@ mod lines;
 mod putting;
 mod text;
 
+pub use putting::NUMBER_ROOM;
+pub use putting::put_bytes;
+pub use putting::put_number;
 pub use text::LISTING_ROOM;
 pub use text::listing;

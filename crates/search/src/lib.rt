@@ -5,5 +5,6 @@ mod leader;
 mod searching;
 mod walking;
 
+pub use answer::Best;
 pub use answer::Search;
 pub use searching::search;

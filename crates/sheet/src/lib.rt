@@ -10,6 +10,7 @@ mod record;
 mod shape;
 
 pub use answer::Issued;
+pub use answer::Summary;
 pub use building::build;
 pub use converting::times;
 pub use converting::to_normal;
@@ -18,5 +19,7 @@ pub use layout::RECORD;
 pub use lists::LIST_LIMIT;
 pub use lists::list_to_normal;
 pub use lists::list_to_polynomial;
+pub use loading::Row;
+pub use loading::polynomial_of;
 pub use loading::row_at;
 pub use reading::read;

@@ -3,8 +3,9 @@
 use mathlib.Core.Path.{sym, _∙_}
 use native.Mathlib.Omega.{arith}
 use borrow.Author.Needs.{needs}
+use Rattle.sheet.specs.Answered.{done-shaped}
 use Rattle.listing.specs.Putting.{put-length}
-use Rattle.listing.specs.Listing.{done-sized, rows-fit, refused-fits, listed-done, listed-refused}
+use Rattle.listing.specs.Listing.{rows-fit, refused-fits, listed-done, listed-refused}
 use Rattle.listing.proofs.text.listing.Statement.{statement}
 use Rattle.listing.proofs.text.listing.Tie as tie
 
@@ -25,7 +26,7 @@ put-rows-requires c κs =
     let y = c .before .before in
     let r = y .before .before in
     let s = r .before .before in
-    let z = done-sized (s .args .sheet .now) (y .summary .given .0 .0) (sym (r .read .ensures .0) ∙ y .summary .given .1) in
+    let z = done-shaped (s .args .sheet .now) (y .summary .given .0 .0) (sym (r .read .ensures .0) ∙ y .summary .given .1) .size in
     (z .most, omega (arith, rows-fit _ (z .most)), omega arith)
 
 put-last-requires : tie.Need-put-last-requires
@@ -33,7 +34,7 @@ put-last-requires c κs =
     let y = c .before .before .before .before in
     let r = y .before .before in
     let s = r .before .before in
-    let z = done-sized (s .args .sheet .now) (y .summary .given .0 .0) (sym (r .read .ensures .0) ∙ y .summary .given .1) in
+    let z = done-shaped (s .args .sheet .now) (y .summary .given .0 .0) (sym (r .read .ensures .0) ∙ y .summary .given .1) .size in
     omega (arith, rows-fit _ (z .most), c .before .put-rows .ensures .1, put-length (c .before .put-rows .ensures .0))
 
 returns : tie.Need-returns
