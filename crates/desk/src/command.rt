@@ -10,10 +10,12 @@ pub(crate) enum Command {
     Build,
     Show,
     List,
+    Verify,
     Times,
     Normal,
     Polynomial,
     Help,
+    Version,
     Unknown,
 }
 
@@ -40,6 +42,8 @@ fn sheet_command_of(word: &[u8]) -> Command {
         Command::Show
     } else if same(word, b"list") {
         Command::List
+    } else if same(word, b"verify") {
+        Command::Verify
     } else if same(word, b"times") {
         Command::Times
     } else if same(word, b"normal") {
@@ -56,8 +60,8 @@ pub(crate) fn command_of(word: &[u8]) -> Command {
     if same(word, b"help") {
         return Command::Help;
     }
-    if same(word, b"--help") {
-        return Command::Help;
+    if same(word, b"version") {
+        return Command::Version;
     }
     sheet_command_of(word)
 }

@@ -1,64 +1,113 @@
-// Lines on words that cannot be used: which word, and what is expected. Each goes to standard error, and nothing else is written.
+// Lines on words that cannot be used: which word, and what is expected. Each goes to standard error, and nothing else is written. A line
+// that cannot be written leaves the exit status to say that a word is bad; a refusal's is tested.
 use super::input::word_space;
 use libc::STDERR_FILENO;
+use streams::Ending;
 
-fn say(text: &[u8]) {
-    io::write_all(STDERR_FILENO, text);
+pub(crate) fn say(text: &[u8]) -> bool {
+    io::write_all(STDERR_FILENO, text)
+}
+
+pub(crate) fn say_number(number: u64) -> bool {
+    io::print_decimal(STDERR_FILENO, number)
+}
+
+// A word between quotes.
+pub(crate) fn say_quoted(word: &[u8]) -> bool {
+    say(b"'") && say(word) && say(b"'")
 }
 
 // Word i, between quotes. One that is too long for the space is not shown.
-fn say_word(i: usize) {
+pub(crate) fn say_word(i: usize) -> bool {
     let mut space = word_space();
     let size = os::arg(i, &mut space);
     if size == 0 {
         if os::errno() != 0 {
-            say(b"a word of more than 256 bytes");
-            return;
+            return say(b"a word of more than 256 bytes");
         }
     }
-    say(b"'");
-    say(&space[..size]);
-    say(b"'");
+    say_quoted(&space[..size])
+}
+
+// What is expected of a polynomial, and of a number.
+pub(crate) fn say_polynomial_form() {
+    say(
+        b" is no polynomial; write it in decimal (19), in hexadecimal (0x13) or as falling exponents (4:1:0), below 2^64\n",
+    );
+}
+
+pub(crate) fn say_number_form() {
+    say(b" is no number; write it in decimal (19) or in hexadecimal (0x13), below 2^64\n");
 }
 
 // Word i is no polynomial.
 pub(crate) fn no_polynomial(i: usize) {
     say(b"desk: ");
     say_word(i);
-    say(
-        b" is no polynomial; write it in decimal (19), in hexadecimal (0x13) or as falling exponents (4:1:0), below 2^64\n",
-    );
+    say_polynomial_form();
 }
 
 // Word i is no number.
 pub(crate) fn no_number(i: usize) {
     say(b"desk: ");
     say_word(i);
-    say(b" is no number; write it in decimal (19) or in hexadecimal (0x13), below 2^64\n");
+    say_number_form();
 }
 
-// The command was given too few or too many words.
-pub(crate) fn wrong_count(usage: &[u8]) {
+// The command that word i names was given too few or too many words.
+pub(crate) fn wrong_count(i: usize, usage: &[u8]) -> Ending {
     say(b"desk: ");
-    say_word(1);
+    say_word(i);
     say(b" was given too few or too many words; write: desk ");
     say(usage);
     say(b"\n");
+    Ending::BadWord
 }
 
-pub(crate) fn unknown_command() {
+pub(crate) fn unknown_command(i: usize) -> Ending {
     say(b"desk: ");
-    say_word(1);
+    say_word(i);
     say(b" is no command; desk help lists them\n");
+    Ending::BadWord
+}
+
+pub(crate) fn unknown_option(i: usize) -> Ending {
+    say(b"desk: ");
+    say_word(i);
+    say(b" is no option; desk help lists them\n");
+    Ending::BadWord
+}
+
+// Option i is the last word, where a file is to follow, or was given before.
+pub(crate) fn no_file(i: usize) -> Ending {
+    say(b"desk: ");
+    say_word(i);
+    say(b" goes once, with a file after it\n");
+    Ending::BadWord
+}
+
+// The command takes no --from.
+pub(crate) fn no_values() -> Ending {
+    say(b"desk: '--from' goes with 'normal' and 'polynomial' alone\n");
+    Ending::BadWord
+}
+
+// Sheet and values are both to come from standard input.
+pub(crate) fn one_input() -> Ending {
+    say(b"desk: the sheet and the values cannot both be standard input; name a file for one\n");
+    Ending::BadWord
 }
 
 // A list of more values than one call converts.
-pub(crate) fn too_many_values() {
-    say(b"desk: more than 4096 values; give them in several calls\n");
+pub(crate) fn too_many_values() -> Ending {
+    say(
+        b"desk: more than 4096 values; give them by line, from standard input (-) or with --from FILE\n",
+    );
+    Ending::BadWord
 }
 
-// The sheet's file cannot be opened. The system's own words say why.
-pub(crate) fn no_sheet(path: &[u8]) {
-    say(b"desk: cannot open the sheet ");
-    os::fail(path);
+// A sheet would go to a terminal.
+pub(crate) fn no_text() -> Ending {
+    say(b"desk: a sheet is bytes and no text for a terminal; write: desk build F ELEMENT > FILE\n");
+    Ending::BadWord
 }

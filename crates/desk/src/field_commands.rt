@@ -4,77 +4,77 @@ use super::answers::answer_search;
 use super::answers::answer_value;
 use super::complaints::wrong_count;
 use super::input::polynomial_at;
+use super::options::Given;
+use super::options::WORDS_ROOM;
+use super::output::Output;
+use gf2::degree_of;
+use streams::Ending;
 use words::Word;
 
-pub(crate) fn check() {
-    if os::arg_count() != 3 {
-        wrong_count(b"check F");
-        return;
+pub(crate) fn check(places: &[usize; WORDS_ROOM], given: Given, output: Output) -> Ending {
+    if given.words != 2 {
+        return wrong_count(places[0], b"check F");
     }
-    let Word::Number(f) = polynomial_at(2) else {
-        return;
+    let Word::Number(f) = polynomial_at(places[1]) else {
+        return Ending::BadWord;
     };
-    answer_check(field::check(f));
+    answer_check(output, field::check(f))
 }
 
-pub(crate) fn multiply() {
-    if os::arg_count() != 5 {
-        wrong_count(b"multiply F A B");
-        return;
+pub(crate) fn multiply(places: &[usize; WORDS_ROOM], given: Given, output: Output) -> Ending {
+    if given.words != 4 {
+        return wrong_count(places[0], b"multiply F A B");
     }
-    let Word::Number(f) = polynomial_at(2) else {
-        return;
+    let Word::Number(f) = polynomial_at(places[1]) else {
+        return Ending::BadWord;
     };
-    let Word::Number(a) = polynomial_at(3) else {
-        return;
+    let Word::Number(a) = polynomial_at(places[2]) else {
+        return Ending::BadWord;
     };
-    let Word::Number(b) = polynomial_at(4) else {
-        return;
+    let Word::Number(b) = polynomial_at(places[3]) else {
+        return Ending::BadWord;
     };
-    answer_value(field::multiply(f, a, b));
+    answer_value(output, field::multiply(f, a, b), places, degree_of(f))
 }
 
-pub(crate) fn square() {
-    if os::arg_count() != 4 {
-        wrong_count(b"square F A");
-        return;
+pub(crate) fn square(places: &[usize; WORDS_ROOM], given: Given, output: Output) -> Ending {
+    if given.words != 3 {
+        return wrong_count(places[0], b"square F A");
     }
-    let Word::Number(f) = polynomial_at(2) else {
-        return;
+    let Word::Number(f) = polynomial_at(places[1]) else {
+        return Ending::BadWord;
     };
-    let Word::Number(a) = polynomial_at(3) else {
-        return;
+    let Word::Number(a) = polynomial_at(places[2]) else {
+        return Ending::BadWord;
     };
-    answer_value(field::square(f, a));
+    answer_value(output, field::square(f, a), places, degree_of(f))
 }
 
-pub(crate) fn trace() {
-    if os::arg_count() != 4 {
-        wrong_count(b"trace F A");
-        return;
+pub(crate) fn trace(places: &[usize; WORDS_ROOM], given: Given, output: Output) -> Ending {
+    if given.words != 3 {
+        return wrong_count(places[0], b"trace F A");
     }
-    let Word::Number(f) = polynomial_at(2) else {
-        return;
+    let Word::Number(f) = polynomial_at(places[1]) else {
+        return Ending::BadWord;
     };
-    let Word::Number(a) = polynomial_at(3) else {
-        return;
+    let Word::Number(a) = polynomial_at(places[2]) else {
+        return Ending::BadWord;
     };
-    answer_value(field::trace(f, a));
+    answer_value(output, field::trace(f, a), places, degree_of(f))
 }
 
-pub(crate) fn search() {
-    if os::arg_count() != 5 {
-        wrong_count(b"search F FIRST LAST");
-        return;
+pub(crate) fn search(places: &[usize; WORDS_ROOM], given: Given, output: Output) -> Ending {
+    if given.words != 4 {
+        return wrong_count(places[0], b"search F FIRST LAST");
     }
-    let Word::Number(f) = polynomial_at(2) else {
-        return;
+    let Word::Number(f) = polynomial_at(places[1]) else {
+        return Ending::BadWord;
     };
-    let Word::Number(first) = polynomial_at(3) else {
-        return;
+    let Word::Number(first) = polynomial_at(places[2]) else {
+        return Ending::BadWord;
     };
-    let Word::Number(last) = polynomial_at(4) else {
-        return;
+    let Word::Number(last) = polynomial_at(places[3]) else {
+        return Ending::BadWord;
     };
-    answer_search(search::search(f, first, last));
+    answer_search(output, search::search(f, first, last), places, degree_of(f))
 }

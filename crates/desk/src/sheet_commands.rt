@@ -1,113 +1,156 @@
-// The commands on one sheet: build, show, list and times.
-ghost use Rattle.io.specs.Counts.{Counts};
+// The commands on one sheet: build, show, list, verify and times.
 use super::answers::answer_value;
-use super::answers::refuse;
+use super::complaints::no_text;
 use super::complaints::wrong_count;
 use super::input::INPUT_ROOM;
+use super::input::degree_named;
 use super::input::number_at;
-use super::input::open_sheet;
 use super::input::polynomial_at;
+use super::input::read_open;
+use super::input::read_sheet;
+use super::listed::answer_listing;
+use super::listed::answer_verify;
+use super::options::Given;
+use super::options::WORDS_ROOM;
+use super::output::Output;
+use super::refusing::refuse_words;
 use gf2::LIMIT;
-use libc::STDOUT_FILENO;
-use listing::LISTING_ROOM;
+use gf2::degree_of;
+use libc::STDIN_FILENO;
 use sheet::Issued;
 use sheet::RECORD;
+use streams::Ending;
+use streams::done_if;
 use words::Word;
 
 // Room for the longest sheet.
 const SHEET_ROOM: usize = RECORD * LIMIT;
 
-// The listing of a sheet that reading accepts, or its refusal.
-fn list_bytes(bytes: &[u8]) {
-    match sheet::read(bytes) {
-        Issued::Refused(refusal) => refuse(refusal),
-        Issued::Done(_) => {
-            let mut text = [0u8; LISTING_ROOM];
-            let end = listing::listing(bytes, &mut text);
-            io::write_all(STDOUT_FILENO, &text[..end]);
+// What is done with a sheet that was built.
+enum Purpose {
+    Bytes,
+    Listing,
+}
+
+fn answer_sheet(purpose: Purpose, output: Output, bytes: &[u8]) -> Ending {
+    match purpose {
+        Purpose::Bytes => done_if(output.put(bytes)),
+        Purpose::Listing => answer_listing(output, bytes),
+    }
+}
+
+// The sheet of f and the element, written or listed.
+fn answer_built(
+    purpose: Purpose,
+    output: Output,
+    f: u64,
+    element: u64,
+    places: &[usize; WORDS_ROOM],
+) -> Ending {
+    let mut buffer = [0u8; SHEET_ROOM];
+    match sheet::build(f, element, &mut buffer) {
+        Issued::Refused(refusal) => refuse_words(refusal, places, degree_of(f)),
+        Issued::Done(summary) => {
+            let size = io::count((RECORD * summary.degree as usize) as isize, &buffer);
+            answer_sheet(purpose, output, &buffer[..size])
         }
     }
 }
 
-// The size of a sheet of that degree at a buffer's front.
-fn sheet_size(degree: u32, buffer: &[u8]) -> usize
-    ensures { λ r. ⌜ Counts r (now (buffer .entry)) ⌝ }
-{
-    io::count((RECORD * degree as usize) as isize, buffer)
-}
-
-// The sheet of the words F ELEMENT, put at the buffer's front. The answer is its size; it is 0 where there is none, and a line has
-// said why.
-fn put_sheet(usage: &[u8], buffer: &mut [u8; SHEET_ROOM]) -> usize
-    ensures { λ r. ⌜ Counts r (now (buffer .exit)) ⌝ }
-{
-    if os::arg_count() != 4 {
-        wrong_count(usage);
-        return 0;
-    }
-    let Word::Number(f) = polynomial_at(2) else {
-        return 0;
+// The sheet of the words F ELEMENT, written or listed.
+fn build_words(purpose: Purpose, output: Output, places: &[usize; WORDS_ROOM]) -> Ending {
+    let Word::Number(f) = polynomial_at(places[1]) else {
+        return Ending::BadWord;
     };
-    let Word::Number(element) = polynomial_at(3) else {
-        return 0;
+    let Word::Number(element) = polynomial_at(places[2]) else {
+        return Ending::BadWord;
     };
-    match sheet::build(f, element, buffer) {
-        Issued::Refused(refusal) => {
-            refuse(refusal);
-            0
-        }
-        Issued::Done(summary) => sheet_size(summary.degree, buffer),
+    answer_built(purpose, output, f, element, places)
+}
+
+pub(crate) fn build(places: &[usize; WORDS_ROOM], given: Given, output: Output) -> Ending {
+    if given.words != 3 {
+        return wrong_count(places[0], b"build F ELEMENT");
+    }
+    if libc::isatty(output.descriptor) == 1 {
+        return no_text();
+    }
+    build_words(Purpose::Bytes, output, places)
+}
+
+pub(crate) fn show(places: &[usize; WORDS_ROOM], given: Given, output: Output) -> Ending {
+    if given.words != 3 {
+        return wrong_count(places[0], b"show F ELEMENT");
+    }
+    build_words(Purpose::Listing, output, places)
+}
+
+// What is told of a sheet that was read.
+enum Telling {
+    Listing,
+    Verdict,
+}
+
+fn tell(telling: Telling, output: Output, bytes: &[u8]) -> Ending {
+    match telling {
+        Telling::Listing => answer_listing(output, bytes),
+        Telling::Verdict => answer_verify(output, bytes),
     }
 }
 
-pub(crate) fn build() {
-    let mut buffer = [0u8; SHEET_ROOM];
-    let size = put_sheet(b"build F ELEMENT", &mut buffer);
-    io::write_all(STDOUT_FILENO, &buffer[..size]);
+// The sheet that word 1 names, or standard input if there is none.
+fn read_named(places: &[usize; WORDS_ROOM], given: Given, bytes: &mut [u8]) -> isize {
+    if given.words == 2 {
+        return read_sheet(places[1], bytes);
+    }
+    read_open(STDIN_FILENO, b"standard input", bytes)
 }
 
-pub(crate) fn show() {
-    let mut buffer = [0u8; SHEET_ROOM];
-    let size = put_sheet(b"show F ELEMENT", &mut buffer);
-    if size > 0 {
-        list_bytes(&buffer[..size]);
-    }
-}
-
-pub(crate) fn list() {
-    if os::arg_count() > 3 {
-        wrong_count(b"list SHEET, or desk list < SHEET");
-        return;
-    }
-    let descriptor = if os::arg_count() == 3 {
-        open_sheet(2)
-    } else {
-        libc::STDIN_FILENO
-    };
-    if descriptor < 0 {
-        return;
-    }
+fn read_and_tell(
+    telling: Telling,
+    places: &[usize; WORDS_ROOM],
+    given: Given,
+    output: Output,
+) -> Ending {
     let mut bytes = [0u8; INPUT_ROOM];
-    let size = io::read_full(descriptor, &mut bytes);
-    list_bytes(&bytes[..size]);
+    let got = read_named(places, given, &mut bytes);
+    if got < 0 {
+        return Ending::Failed;
+    }
+    let size = io::count(got, &bytes);
+    tell(telling, output, &bytes[..size])
 }
 
-pub(crate) fn times() {
-    if os::arg_count() != 5 {
-        wrong_count(b"times SHEET A B");
-        return;
+pub(crate) fn list(places: &[usize; WORDS_ROOM], given: Given, output: Output) -> Ending {
+    if given.words > 2 {
+        return wrong_count(places[0], b"list SHEET, or desk list < SHEET");
     }
-    let Word::Number(a) = number_at(3) else {
-        return;
-    };
-    let Word::Number(b) = number_at(4) else {
-        return;
-    };
-    let descriptor = open_sheet(2);
-    if descriptor < 0 {
-        return;
+    read_and_tell(Telling::Listing, places, given, output)
+}
+
+pub(crate) fn verify(places: &[usize; WORDS_ROOM], given: Given, output: Output) -> Ending {
+    if given.words > 2 {
+        return wrong_count(places[0], b"verify SHEET, or desk verify < SHEET");
     }
+    read_and_tell(Telling::Verdict, places, given, output)
+}
+
+pub(crate) fn times(places: &[usize; WORDS_ROOM], given: Given, output: Output) -> Ending {
+    if given.words != 4 {
+        return wrong_count(places[0], b"times SHEET A B");
+    }
+    let Word::Number(a) = number_at(places[2]) else {
+        return Ending::BadWord;
+    };
+    let Word::Number(b) = number_at(places[3]) else {
+        return Ending::BadWord;
+    };
     let mut bytes = [0u8; INPUT_ROOM];
-    let size = io::read_full(descriptor, &mut bytes);
-    answer_value(sheet::times(&bytes[..size], a, b));
+    let got = read_sheet(places[1], &mut bytes);
+    if got < 0 {
+        return Ending::Failed;
+    }
+    let size = io::count(got, &bytes);
+    let degree = degree_named(&bytes[..size]);
+    answer_value(output, sheet::times(&bytes[..size], a, b), places, degree)
 }

@@ -8,16 +8,22 @@ use Rattle.desk.proofs.converting.values_of.Statement.{statement}
 use Rattle.desk.proofs.converting.values_of.Tie as tie
 
 abbrev Inv-loop : tie.InvT-loop
-Inv-loop goal values₀ i₀ values i = (i ≤ length values₀) × (length values ≡ length values₀)
+Inv-loop goal places values₀ i₀ values i = (i ≤ length values₀) × (length values ≡ length values₀)
 
 abbrev μ-loop : tie.MeasureT-loop
-μ-loop goal values₀ i₀ values i = length values₀ - i
+μ-loop goal places values₀ i₀ values i = length values₀ - i
 
 loop-holds : tie.Need-loop-holds Inv-loop μ-loop
 loop-holds c = (omega arith, refl)
 
 add-value-at : tie.Need-add-value-at Inv-loop μ-loop
 add-value-at c = omega arith
+
+mul-value-at : tie.Need-mul-value-at Inv-loop μ-loop
+mul-value-at c = omega arith
+
+element-copy-out-value-at : tie.Need-element-copy-out-value-at Inv-loop μ-loop
+element-copy-out-value-at c = omega arith
 
 value-at-requires : tie.Need-value-at-requires Inv-loop μ-loop
 value-at-requires c κs = search needs
@@ -63,6 +69,8 @@ values-of-spec =
     μ-loop
     loop-holds
     add-value-at
+    mul-value-at
+    element-copy-out-value-at
     value-at-requires
     enum-known-value
     enum-told

@@ -1,0 +1,87 @@
+// The pages that `desk help` and `desk version` print.
+use super::output::Output;
+use streams::Ending;
+use streams::done_if;
+
+fn put_number_commands(output: Output) -> bool {
+    output.put(b"desk check F                    whether the defining polynomial F is accepted\n")
+        && output.put(b"desk multiply F A B             A times B modulo F\n")
+        && output.put(b"desk square F A                 A times A modulo F\n")
+        && output.put(b"desk trace F A                  the sum of the conjugates of A, 0 or 1\n")
+        && output.put(
+            b"desk search F FIRST LAST        the normal basis of least complexity from FIRST to LAST\n",
+        )
+}
+
+fn put_sheet_commands(output: Output) -> bool {
+    output.put(
+        b"desk build F ELEMENT            the sheet of ELEMENT, its bytes on standard output\n",
+    )
+        && output.put(b"desk show F ELEMENT             the sheet of ELEMENT, listed\n")
+        && output.put(
+            b"desk list SHEET                 a sheet, read and listed; without SHEET, standard input\n",
+        )
+        && output.put(
+            b"desk verify SHEET               whether a sheet is right: degree, F, element, complexity and grade\n",
+        )
+        && output.put(b"desk normal SHEET VALUE..       the normal coordinates of elements\n")
+        && output.put(b"desk polynomial SHEET VALUE..   the elements of normal coordinates\n")
+        && output.put(b"desk times SHEET A B            the product of normal coordinates\n")
+}
+
+fn put_other_commands(output: Output) -> bool {
+    output.put(b"desk help                       this page; also -h and --help\n")
+        && output.put(b"desk version                    the version; also --version\n")
+        && output.put(b"\n")
+        && output.put(
+            b"--hex          writes polynomials, elements and coordinates in hexadecimal\n",
+        )
+        && output.put(
+            b"--from FILE    with normal and polynomial: reads the values from FILE, one a line\n",
+        )
+        && output.put(
+            b"--to FILE      writes the answer to FILE, which is replaced only if all was written\n",
+        )
+}
+
+fn put_notations(output: Output) -> bool {
+    output.put(
+        b"\nF is a polynomial of degree 2 to 46, an element one of smaller degree. Bit i of its number is the\n",
+    )
+        && output.put(
+            b"coefficient of x^i: x^4 + x + 1 is 19, 0x13 or, by its exponents, 4:1:0. Coordinates are decimal or 0x\n",
+        )
+        && output.put(
+            b"hexadecimal numbers. SHEET is a file that desk build wrote, or - for standard input. With - in place of\n",
+        )
+        && output.put(
+            b"the values, normal and polynomial read any number of them from standard input, one a line.\n",
+        )
+        && output.put(
+            b"A listing has a line for each row: its number, conjugate, inverse row and table row.\n",
+        )
+}
+
+fn put_endings(output: Output) -> bool {
+    output.put(
+        b"\nA refusal is a line on standard error: refused NUMBER PLACE, and what it means.\n",
+    )
+        && output.put(
+            b"Exit status: 0 done, 1 refused, 2 a word cannot be used, 3 could not run, read or write.\n",
+        )
+}
+
+pub(crate) fn put_help(output: Output) -> Ending {
+    done_if(
+        put_number_commands(output)
+            && put_sheet_commands(output)
+            && put_other_commands(output)
+            && put_notations(output)
+            && put_endings(output),
+    )
+}
+
+// The one version number of the program, the C header and the Rust crate.
+pub(crate) fn put_version(output: Output) -> Ending {
+    done_if(output.put(b"desk 1.0.0\n"))
+}

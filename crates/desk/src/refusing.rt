@@ -1,0 +1,115 @@
+// Refusals, told on standard error: the number, the place and the meaning in words.
+use super::complaints::say;
+use super::complaints::say_number;
+use super::complaints::say_word;
+use super::input::word_space;
+use super::options::VALUES_AT;
+use super::options::WORDS_ROOM;
+use gf2::degree_of;
+use refusals::Refusal;
+use streams::Ending;
+use words::Word;
+
+// The refusal of a number with more bits than the degree.
+pub(crate) const TOO_LARGE: u8 = 4;
+
+// What document 01's table says of a refusal. A number that is not in the table is told as such.
+fn say_meaning(number: u8) -> bool {
+    match number {
+        1 => say(b"the degree of f is not 2 to 46"),
+        2 => say(b"a polynomial of smaller degree, other than 1, divides f"),
+        3 => say(b"squaring x as many times as the degree of f does not bring it back"),
+        4 => say(b"an element, a coordinate number or a range end has more bits than the degree"),
+        5 => say(b"the element is not normal"),
+        6 => say(b"the buffer is shorter than the sheet"),
+        7 => say(b"the sheet's length is not 32 bytes times a count of 2 to 46"),
+        8 => say(
+            b"the record at this place does not fit in: its degree, its row number or its polynomial",
+        ),
+        9 => say(
+            b"the record at this place has a polynomial or a row with more bits than the degree",
+        ),
+        10 => say(
+            b"the record at this place is not the one that the polynomial and the element give",
+        ),
+        11 => say(b"the lists differ in length or have more than 4096 values"),
+        12 => say(b"the first of the range is greater than the last"),
+        _ => say(b"a number that this program has no meaning for"),
+    }
+}
+
+// How a command ends that is refused, if the line on it was written. One that could not be is no refusal that anybody was told of.
+fn refused_if(told: bool) -> Ending {
+    if told {
+        Ending::Refused
+    } else {
+        Ending::Failed
+    }
+}
+
+// The number and the place.
+fn say_refused(number: u64, place: u64) -> bool {
+    say(b"refused ") && say_number(number) && say(b" ") && say_number(place) && say(b": ")
+}
+
+// A refusal that no word of the command line stands behind.
+pub(crate) fn refuse(refusal: Refusal) -> Ending {
+    refused_if(
+        say_refused(refusal.number as u64, refusal.place as u64)
+            && say_meaning(refusal.number)
+            && say(b"\n"),
+    )
+}
+
+// The end of a line on a number that is too large.
+fn say_degree(degree: u32) -> bool {
+    say(b" has more bits than the degree, ") && say_number(degree as u64) && say(b"\n")
+}
+
+// Whether word i is a number with more bits than the degree.
+fn exceeds(i: usize, degree: u32) -> bool {
+    let mut space = word_space();
+    let size = os::arg(i, &mut space);
+    match words::polynomial(&space[..size]) {
+        Word::Unclear => false,
+        Word::Number(number) => degree_of(number) >= degree,
+    }
+}
+
+// The place of the first value of the command line with more bits than the degree; that of the first value if there is none.
+fn first_exceeding(places: &[usize; WORDS_ROOM], degree: u32) -> usize {
+    let mut k: usize = VALUES_AT;
+    while k < WORDS_ROOM {
+        if exceeds(places[k], degree) {
+            return places[k];
+        }
+        k += 1;
+    }
+    places[VALUES_AT]
+}
+
+// A refusal of values that stand on the command line. One for a value that is too large names its word.
+pub(crate) fn refuse_words(refusal: Refusal, places: &[usize; WORDS_ROOM], degree: u32) -> Ending {
+    if refusal.number != TOO_LARGE {
+        return refuse(refusal);
+    }
+    let place = first_exceeding(places, degree);
+    refused_if(
+        say_refused(refusal.number as u64, refusal.place as u64)
+            && say_word(place)
+            && say_degree(degree),
+    )
+}
+
+// The refusal of a value that came by line and is too large. Its place in the list of all values counts from 0, its line from 1.
+pub(crate) fn refuse_line(place: u64, value: u64, degree: u32) -> Ending {
+    let line = std::num::wrapping_add_u64(place, 1);
+    refused_if(
+        say_refused(TOO_LARGE as u64, place)
+            && say(b"line ")
+            && say_number(line)
+            && say(b": ")
+            && say_number(value)
+            && say_degree(degree),
+    )
+}

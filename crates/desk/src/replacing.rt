@@ -1,0 +1,159 @@
+// The file that --to names. The answer is written to a new file beside it, which is synced and takes its name when the command is done;
+// otherwise the file stays as it was.
+ghost use Prim.Native.Nat.{_<_};
+ghost use Rattle.io.specs.Counts.{Counts};
+use super::input::path_at;
+use super::options::Given;
+use super::output::Output;
+use libc::ENOENT;
+use libc::SEEK_END;
+use libc::STDOUT_FILENO;
+use listing::put_bytes;
+use streams::Ending;
+use streams::cannot;
+use streams::done_if;
+
+// The longest path that a name beside it has room for.
+const LONGEST: usize = 4000;
+
+// A byte as a number.
+fn wide(byte: u8) -> u64
+    ensures { λ r. ⌜ r < 256 ⌝ }
+{
+    byte as u64
+}
+
+// A number that another command hardly has too. If the system has none to give, it is 0, and a file of that name is still not taken.
+fn chance() -> u64 {
+    let mut bytes = [0u8; 4];
+    libc::getentropy(&mut bytes);
+    ((wide(bytes[0]) * 256 + wide(bytes[1])) * 256 + wide(bytes[2])) * 256 + wide(bytes[3])
+}
+
+// Puts the name of the new file at the front of the space, and returns its length: the path and a mark, so that no two commands write to
+// the same one. It is 0 if the path is too long.
+fn name_beside(path: &[u8], mark: u64, space: &mut [u8; 4096]) -> usize
+    ensures { λ r. ⌜ Counts r (now (space .exit)) ⌝ }
+{
+    if path.len() > LONGEST {
+        return 0;
+    }
+    let mut digits = [0u8; 20];
+    let count = io::decimal(mark, &mut digits);
+    let first = put_bytes(space, 0, path);
+    let second = put_bytes(space, first, b".desk-");
+    put_bytes(space, second, &digits[..count])
+}
+
+// Whether an open file is one of bytes that can be cut: no device, no pipe.
+fn is_regular(descriptor: i32) -> bool {
+    let end = libc::lseek(descriptor, 0, SEEK_END);
+    libc::ftruncate(descriptor, end) == 0
+}
+
+// Whether a path may be replaced: nothing is there, or a regular file that may be written.
+fn may_replace(path: &[u8]) -> bool {
+    let opened = os::open_update(path);
+    if opened < 0 {
+        return os::errno() == ENOENT;
+    }
+    let regular = is_regular(opened);
+    if regular {
+        libc::close(opened);
+    }
+    regular
+}
+
+// A new file beside the path, open for writing; -1 if there is none, and a line has said so.
+fn open_beside(path: &[u8], mark: u64) -> i32 {
+    if !may_replace(path) {
+        cannot(b"write", path);
+        return -1;
+    }
+    let mut space = io::buffer();
+    let size = name_beside(path, mark, &mut space);
+    let created = os::create(&space[..size]);
+    if created < 0 {
+        cannot(b"write", &space[..size]);
+    }
+    created
+}
+
+// What answers are written to. If it cannot be opened, a line says so, and its descriptor is -1.
+pub(crate) fn open_output(given: Given) -> Output {
+    let mark = chance();
+    let mut descriptor = STDOUT_FILENO;
+    if given.to != 0 {
+        let mut path = io::buffer();
+        let size = path_at(given.to, &mut path);
+        descriptor = open_beside(&path[..size], mark);
+    }
+    Output {
+        descriptor,
+        place: given.to,
+        mark,
+        hex: given.hex,
+    }
+}
+
+// The new file is whole: it takes the path's name.
+fn keep(descriptor: i32, path: &[u8], mark: u64) -> Ending {
+    let mut space = io::buffer();
+    let size = name_beside(path, mark, &mut space);
+    if libc::fsync(descriptor) == 0 {
+        if libc::close(descriptor) == 0 {
+            if os::rename(&space[..size], path) == 0 {
+                return Ending::Done;
+            }
+        }
+    }
+    cannot(b"write", path);
+    os::unlink(&space[..size]);
+    Ending::Failed
+}
+
+// The new file is not whole, and goes.
+fn drop(descriptor: i32, path: &[u8], mark: u64) {
+    let mut space = io::buffer();
+    let size = name_beside(path, mark, &mut space);
+    libc::close(descriptor);
+    os::unlink(&space[..size]);
+}
+
+// The end of a command that is done: what the system still held back is written now, or that fails.
+fn finish(output: Output) -> Ending {
+    if output.place == 0 {
+        return done_if(streams::close_output());
+    }
+    let mut path = io::buffer();
+    let size = path_at(output.place, &mut path);
+    keep(output.descriptor, &path[..size], output.mark)
+}
+
+// The end of a command that is not done.
+fn give_up(output: Output) {
+    if output.place != 0 {
+        let mut path = io::buffer();
+        let size = path_at(output.place, &mut path);
+        drop(output.descriptor, &path[..size], output.mark);
+    }
+}
+
+// Closes what answers were written to, and returns how the command ended in the end.
+pub(crate) fn close_output(output: Output, ending: Ending) -> Ending {
+    match ending {
+        Ending::Done => finish(output),
+        Ending::Refused => {
+            give_up(output);
+            Ending::Refused
+        }
+        Ending::BadWord => {
+            give_up(output);
+            Ending::BadWord
+        }
+        Ending::Failed => {
+            give_up(output);
+            Ending::Failed
+        }
+    }
+}
