@@ -2,14 +2,44 @@
 // tell that the input is longer, which is refusal 7.
 use gf2::LIMIT;
 use libc::STDIN_FILENO;
-use libc::STDOUT_FILENO;
 use listing::LISTING_ROOM;
+use sheet::Issued;
 use sheet::RECORD;
+use streams::Ending;
+use streams::cannot;
+use streams::close_output;
+use streams::end;
+use streams::read_whole;
+use streams::write_output;
+
+// How the run ends when the listing is written: a sheet that reading refuses is refused.
+fn ending_of(sheet: &[u8]) -> Ending {
+    match sheet::read(sheet) {
+        Issued::Refused(_) => Ending::Refused,
+        Issued::Done(_) => Ending::Done,
+    }
+}
+
+fn list(sheet: &[u8]) -> Ending {
+    let mut text = [0u8; LISTING_ROOM];
+    let end = listing::listing(sheet, &mut text);
+    if write_output(&text[..end]) && close_output() {
+        return ending_of(sheet);
+    }
+    Ending::Failed
+}
+
+fn answer() -> Ending {
+    let mut input = [0u8; RECORD * LIMIT + 1];
+    let got = read_whole(STDIN_FILENO, &mut input);
+    if got < 0 {
+        cannot(b"read", b"standard input");
+        return Ending::Failed;
+    }
+    let size = io::count(got, &input);
+    list(&input[..size])
+}
 
 fn main() {
-    let mut input = [0u8; RECORD * LIMIT + 1];
-    let size = io::read_full(STDIN_FILENO, &mut input);
-    let mut text = [0u8; LISTING_ROOM];
-    let end = listing::listing(&input[..size], &mut text);
-    io::write_all(STDOUT_FILENO, &text[..end]);
+    end(answer());
 }

@@ -35,15 +35,17 @@ fn least_complexity(f: u64, last: u64) -> u64 {
     }
 }
 
-fn print_least() {
+fn print_least() -> bool {
     let mut n: usize = 2;
     while n < 21 {
-        say_complexity(n as u64, least_complexity(FIELDS[n - 2], (1u64 << n) - 1));
+        if !say_complexity(n as u64, least_complexity(FIELDS[n - 2], (1u64 << n) - 1)) {
+            return false;
+        }
         n += 1;
     }
+    true
 }
 
-pub(crate) fn run() {
-    say(b"least complexities, source document 000: degree, complexity\n");
-    print_least();
+pub(crate) fn run() -> bool {
+    say(b"least complexities, source document 000: degree, complexity\n") && print_least()
 }

@@ -165,7 +165,7 @@ const ROWS: [u64; 7] = [ROW_40, ROW_41, ROW_42, ROW_43, ROW_44, ROW_45, ROW_46];
 const X: u64 = 2;
 
 // The basis of x in the field of f.
-fn print_generator(f: u64) {
+fn print_generator(f: u64) -> bool {
     let mut sheet = [0u8; RECORD * LIMIT];
     match sheet::build(f, X, &mut sheet) {
         Issued::Refused(refusal) => say_refusal(refusal),
@@ -173,15 +173,17 @@ fn print_generator(f: u64) {
     }
 }
 
-fn print_generators() {
+fn print_generators() -> bool {
     let mut row: usize = 0;
     while row < 7 {
-        print_generator(ROWS[row]);
+        if !print_generator(ROWS[row]) {
+            return false;
+        }
         row += 1;
     }
+    true
 }
 
-pub(crate) fn run() {
-    say(b"generators of table 5, source document 001: degree, complexity\n");
-    print_generators();
+pub(crate) fn run() -> bool {
+    say(b"generators of table 5, source document 001: degree, complexity\n") && print_generators()
 }

@@ -16,12 +16,21 @@ mod records;
 mod searches;
 mod sheets;
 
+use streams::close_output;
+use streams::done_if;
+use streams::end;
+
+fn run() -> bool {
+    complexities::run()
+        && generators::run()
+        && sheets::run()
+        && conversions::run()
+        && checks::run()
+        && searches::run()
+        && records::run()
+        && close_output()
+}
+
 fn main() {
-    complexities::run();
-    generators::run();
-    sheets::run();
-    conversions::run();
-    checks::run();
-    searches::run();
-    records::run();
+    end(done_if(run()));
 }

@@ -1,6 +1,7 @@
 -- `vectors::complexities::print_least` meets its contract. The measure is the number of degrees left. Assumes nothing.
 use Prim.Native.Nat.{ℕ, _-_, _*_, _%_, _^_, _≤_}
 use native.Mathlib.Omega.{arith}
+use borrow.Author.Needs.{needs}
 use lib.Pow.{pow-mono, pow-pos}
 use Rattle.vectors.proofs.complexities.print_least.Statement.{statement}
 use Rattle.vectors.proofs.complexities.print_least.Tie as tie
@@ -34,10 +35,13 @@ sub-least-complexity-2 : tie.Need-sub-least-complexity-2 Inv-loop μ-loop
 sub-least-complexity-2 c = shifted _ (omega arith)
 
 least-complexity-requires : tie.Need-least-complexity-requires Inv-loop μ-loop
-least-complexity-requires c κs = search
+least-complexity-requires c κs = search needs
 
 say-complexity-requires : tie.Need-say-complexity-requires Inv-loop μ-loop
-say-complexity-requires c κs = search
+say-complexity-requires c κs = search needs
+
+returns : tie.Need-returns Inv-loop μ-loop
+returns c = search needs
 
 add-n : tie.Need-add-n Inv-loop μ-loop
 add-n c = omega arith
@@ -48,8 +52,8 @@ loop-less c = omega arith
 loop-again : tie.Need-loop-again Inv-loop μ-loop
 loop-again c = omega arith
 
-returns : tie.Need-returns Inv-loop μ-loop
-returns c = search
+returns-2 : tie.Need-returns-2 Inv-loop μ-loop
+returns-2 c = search needs
 
 pub print-least-spec : {M : Type 1} → statement M
 print-least-spec =
@@ -65,7 +69,8 @@ print-least-spec =
     sub-least-complexity-2
     least-complexity-requires
     say-complexity-requires
+    returns
     add-n
     loop-less
     loop-again
-    returns)
+    returns-2)

@@ -1,6 +1,7 @@
 -- `vectors::generators::print_generators` meets its contract. The measure is the number of rows left. Assumes nothing.
 use Prim.Native.Nat.{_-_, _≤_}
 use native.Mathlib.Omega.{arith}
+use borrow.Author.Needs.{needs}
 use Rattle.vectors.proofs.generators.print_generators.Statement.{statement}
 use Rattle.vectors.proofs.generators.print_generators.Tie as tie
 
@@ -20,7 +21,10 @@ array-read-print-generator : tie.Need-array-read-print-generator Inv-loop μ-loo
 array-read-print-generator c = omega arith
 
 print-generator-requires : tie.Need-print-generator-requires Inv-loop μ-loop
-print-generator-requires c κs = search
+print-generator-requires c κs = search needs
+
+returns : tie.Need-returns Inv-loop μ-loop
+returns c = search needs
 
 add-row : tie.Need-add-row Inv-loop μ-loop
 add-row c = omega arith
@@ -31,8 +35,8 @@ loop-less c = omega arith
 loop-again : tie.Need-loop-again Inv-loop μ-loop
 loop-again c = omega arith
 
-returns : tie.Need-returns Inv-loop μ-loop
-returns c = search
+returns-2 : tie.Need-returns-2 Inv-loop μ-loop
+returns-2 c = search needs
 
 pub print-generators-spec : {M : Type 1} → statement M
 print-generators-spec =
@@ -44,7 +48,8 @@ print-generators-spec =
     mul-print-generator
     array-read-print-generator
     print-generator-requires
+    returns
     add-row
     loop-less
     loop-again
-    returns)
+    returns-2)

@@ -18,7 +18,10 @@ element-copy-out-print-byte : tie.Need-element-copy-out-print-byte Inv-loop μ-l
 element-copy-out-print-byte c = search needs
 
 print-byte-requires : tie.Need-print-byte-requires Inv-loop μ-loop
-print-byte-requires c κs = search
+print-byte-requires c κs = search needs
+
+returns : tie.Need-returns Inv-loop μ-loop
+returns c = search needs
 
 add-k : tie.Need-add-k Inv-loop μ-loop
 add-k c = omega arith
@@ -30,10 +33,10 @@ loop-again : tie.Need-loop-again Inv-loop μ-loop
 loop-again c = omega arith
 
 end-line-requires : tie.Need-end-line-requires Inv-loop μ-loop
-end-line-requires c κs = search
+end-line-requires c κs = search needs
 
-returns : tie.Need-returns Inv-loop μ-loop
-returns c = search
+returns-2 : tie.Need-returns-2 Inv-loop μ-loop
+returns-2 c = search needs
 
 pub print-record-spec : {M : Type 1} → statement M
 print-record-spec =
@@ -44,8 +47,9 @@ print-record-spec =
     loop-holds
     element-copy-out-print-byte
     print-byte-requires
+    returns
     add-k
     loop-less
     loop-again
     end-line-requires
-    returns)
+    returns-2)
