@@ -4,6 +4,7 @@
 --   deskIssued p     that of a built or read sheet
 --   foundFlag s      1 where the search's answer is its case "found", else 0
 --   deskFound b p    that of the search, beside that flag
+--   deskWord w       what a typed word means, which is no report: reading a word refuses nothing
 --
 -- That a refusal's other values are zero stands in the reports (`reportOf`, `issueOf`, `refusedReport`).
 -- Assumes nothing.
@@ -13,9 +14,12 @@ use Rattle.sheet.specs.Answers.{Issue}
 use Rattle.search.specs.Answers.{SearchReport}
 use Rattle.search.specs.declared.answer.Search.{Search}
 use Rattle.search.specs.declared.answer.Search.the-variants.{Refused, Nothing, Found}
+use Rattle.words.specs.declared.answer.Word.{Word}
+use Rattle.words.specs.declared.answer.Word.the-variants.{Unclear, Number}
 use Rattle.capi.specs.declared.answer.DeskValue.{DeskValue}
 use Rattle.capi.specs.declared.answer.DeskIssued.{DeskIssued}
 use Rattle.capi.specs.declared.answer.DeskFound.{DeskFound}
+use Rattle.capi.specs.declared.answer.DeskWord.{DeskWord}
 
 abbrev pub deskValue : Report → DeskValue
 deskValue p = record { number = p .number; place = p .place; value = p .value }
@@ -31,3 +35,8 @@ foundFlag (Found x) = 1
 
 abbrev pub deskFound : (found : ℕ) → SearchReport → DeskFound
 deskFound b p = record { number = p .number; found = b; element = p .element; complexity = p .complexity; grade = p .grade; count = p .count }
+
+-- an unclear word has the value 0, which a clear word may have as well: the flag tells them apart
+unfoldable pub deskWord : Word → DeskWord
+deskWord Unclear = record { clear = 0; value = 0 }
+deskWord (Number x) = record { clear = 1; value = x }

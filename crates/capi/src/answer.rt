@@ -3,12 +3,13 @@ ghost use mathlib.Core.Path.{_≡_};
 ghost use Rattle.refusals.specs.Answers.{valueReport, checkedReport};
 ghost use Rattle.sheet.specs.Answers.{issuedReport};
 ghost use Rattle.search.specs.Answers.{refusedReport, caseReport};
-ghost use Rattle.capi.specs.Answers.{deskValue, deskIssued, deskFound, foundFlag};
+ghost use Rattle.capi.specs.Answers.{deskValue, deskIssued, deskFound, deskWord, foundFlag};
 use normal::grade_number;
 use refusals::Checked;
 use refusals::Value;
 use search::Search;
 use sheet::Issued;
+use words::Word;
 
 // The answer of a call that has one value, or none: then the value is 0.
 #[repr(C)]
@@ -37,6 +38,13 @@ pub struct DeskFound {
     pub complexity: u64,
     pub grade: u64,
     pub count: u64,
+}
+
+// What a word means: clear is 1 and the value its number, or both are 0.
+#[repr(C)]
+pub struct DeskWord {
+    pub clear: u64,
+    pub value: u64,
 }
 
 // An answer of one value, handed out.
@@ -124,5 +132,15 @@ pub fn found_out(answer: Search) -> DeskFound
                 count: best.count,
             }
         }
+    }
+}
+
+// What a word means, handed out.
+pub fn word_out(answer: Word) -> DeskWord
+    ensures { λ r. ⌜ r ≡ deskWord answer ⌝ }
+{
+    match answer {
+        Word::Unclear => DeskWord { clear: 0, value: 0 },
+        Word::Number(value) => DeskWord { clear: 1, value },
     }
 }

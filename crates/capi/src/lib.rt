@@ -1,10 +1,13 @@
-// The calls of the desk for C and Rust: each hands its arguments to the library's call of that name, and its answer out as numbers.
+// The calls of the desk for C and Rust: each hands its arguments to the library's call of that name, and its answer out as numbers. Two
+// more say what a typed word means.
 mod answer;
 mod calls;
+mod typed;
 
 pub use answer::DeskFound;
 pub use answer::DeskIssued;
 pub use answer::DeskValue;
+pub use answer::DeskWord;
 pub use calls::desk_build;
 pub use calls::desk_check;
 pub use calls::desk_list_to_normal;
@@ -17,3 +20,5 @@ pub use calls::desk_times;
 pub use calls::desk_to_normal;
 pub use calls::desk_to_polynomial;
 pub use calls::desk_trace;
+pub use typed::desk_number_of;
+pub use typed::desk_polynomial_of;

@@ -9,7 +9,7 @@
 --     .exit             the arguments once it has returned: what a lent slice holds then is `now` of it
 --   Determined c      any two results that the promise permits for the same arguments are equal
 --   DeterminedWith c left   and any two final states of what it lends, which `left` picks
---   check, multiply, ..   the thirteen calls of the desk, the twelve exports, and the two that read a word
+--   check, multiply, ..   the thirteen calls of the desk, the fourteen exports, and the two that read a word
 --
 -- A theorem on every run of a call is one on what the call does. Definitions alone.
 -- Assumes nothing.
@@ -69,6 +69,10 @@ use Rattle.capi.proofs.desk_list_to_normal.Reads as desk-list-to-normal-reads
 use Rattle.capi.proofs.desk_list_to_normal.Kinds as desk-list-to-normal-kinds
 use Rattle.capi.proofs.desk_search.Reads as desk-search-reads
 use Rattle.capi.proofs.desk_search.Kinds as desk-search-kinds
+use Rattle.capi.proofs.desk_number_of.Reads as desk-number-of-reads
+use Rattle.capi.proofs.desk_number_of.Kinds as desk-number-of-kinds
+use Rattle.capi.proofs.desk_polynomial_of.Reads as desk-polynomial-of-reads
+use Rattle.capi.proofs.desk_polynomial_of.Kinds as desk-polynomial-of-kinds
 use Rattle.words.proofs.number.Reads as number-reads
 use Rattle.words.proofs.number.Kinds as number-kinds
 use Rattle.words.proofs.polynomial.Reads as polynomial-reads
@@ -189,6 +193,12 @@ desk-list-to-normal = record { lifetimes = 3; params = desk-list-to-normal-kinds
 
 abbrev pub desk-search : Call
 desk-search = record { lifetimes = 0; params = desk-search-kinds.ps; returns = desk-search-kinds.r; asks = desk-search-reads.Asked; promise = desk-search-reads.Post; asks-nothing = λ κs a. tt }
+
+abbrev pub desk-number-of : Call
+desk-number-of = record { lifetimes = 1; params = desk-number-of-kinds.ps; returns = desk-number-of-kinds.r; asks = desk-number-of-reads.Asked; promise = desk-number-of-reads.Post; asks-nothing = λ κs a. tt }
+
+abbrev pub desk-polynomial-of : Call
+desk-polynomial-of = record { lifetimes = 1; params = desk-polynomial-of-kinds.ps; returns = desk-polynomial-of-kinds.r; asks = desk-polynomial-of-reads.Asked; promise = desk-polynomial-of-reads.Post; asks-nothing = λ κs a. tt }
 
 -- ---- what number a word means
 

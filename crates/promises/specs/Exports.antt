@@ -7,9 +7,9 @@ use denote.Ref.{now}
 use Rattle.field.specs.Answers.{checkReport, multiplyReport, squareReport, traceReport}
 use Rattle.sheet.specs.Answers.{buildReport, builtBuffer, readReport, polynomialReport, normalReport, timesReport, polynomialListReport, polynomialList, normalListReport, normalList}
 use Rattle.search.specs.Answers.{searchAnswer, searchReport}
-use Rattle.capi.specs.Answers.{deskValue, deskIssued, deskFound, foundFlag}
+use Rattle.capi.specs.Answers.{deskValue, deskIssued, deskFound, deskWord, foundFlag}
 use Rattle.words.specs.Notation.{numberOf, polynomialOf}
-use Rattle.promises.specs.Calls.{Run, Determined, DeterminedWith, desk-check, desk-multiply, desk-square, desk-trace, desk-build, desk-read, desk-to-polynomial, desk-to-normal, desk-times, desk-list-to-polynomial, desk-list-to-normal, desk-search, number, polynomial}
+use Rattle.promises.specs.Calls.{Run, Determined, DeterminedWith, desk-check, desk-multiply, desk-square, desk-trace, desk-build, desk-read, desk-to-polynomial, desk-to-normal, desk-times, desk-list-to-polynomial, desk-list-to-normal, desk-search, desk-number-of, desk-polynomial-of, number, polynomial}
 
 -- ---- the field calls
 
@@ -105,3 +105,15 @@ polynomial-is c = c .kept
 
 pub polynomial-determined : Determined polynomial
 polynomial-determined κs a x y e e′ p q = p ∙ sym q
+
+pub desk-number-of-is : (c : Run desk-number-of) → c .result ≡ deskWord (numberOf (now (c .args .0)))
+desk-number-of-is c = c .kept
+
+pub desk-number-of-determined : Determined desk-number-of
+desk-number-of-determined κs a x y e e′ p q = p ∙ sym q
+
+pub desk-polynomial-of-is : (c : Run desk-polynomial-of) → c .result ≡ deskWord (polynomialOf (now (c .args .0)))
+desk-polynomial-of-is c = c .kept
+
+pub desk-polynomial-of-determined : Determined desk-polynomial-of
+desk-polynomial-of-determined κs a x y e e′ p q = p ∙ sym q
