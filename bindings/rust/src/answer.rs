@@ -3,6 +3,7 @@
 
 use crate::raw;
 use crate::refusal::{Refusal, UnknownNumber};
+use std::fmt;
 
 /// The kind of a basis, as its grade names it.
 ///
@@ -37,6 +38,22 @@ impl Grade {
     /// The number in document 01.
     pub fn number(self) -> u64 {
         self as u64
+    }
+}
+
+/// What the grade's number says. It does not say "type I", since at degree 6 a
+/// basis of type II has grade 1 too.
+///
+/// ```
+/// assert_eq!(sabrentuglio::Grade::TypeOne.to_string(), "optimal, n+1 prime");
+/// ```
+impl fmt::Display for Grade {
+    fn fmt(&self, out: &mut fmt::Formatter<'_>) -> fmt::Result {
+        out.pad(match self {
+            Grade::NotOptimal => "not optimal",
+            Grade::TypeOne => "optimal, n+1 prime",
+            Grade::TypeTwo => "optimal, n+1 not prime",
+        })
     }
 }
 
@@ -75,6 +92,22 @@ impl Summary {
     }
 }
 
+/// ```
+/// let summary = sabrentuglio::Sheet::build(11, 3)?.summary();
+/// assert_eq!(summary.to_string(), "degree 3 complexity 5 grade 2");
+/// # Ok::<(), sabrentuglio::Refusal>(())
+/// ```
+impl fmt::Display for Summary {
+    fn fmt(&self, out: &mut fmt::Formatter<'_>) -> fmt::Result {
+        let (complexity, grade) = (self.complexity, self.grade);
+        write!(
+            out,
+            "degree {} complexity {} grade {}",
+            self.degree, complexity, grade
+        )
+    }
+}
+
 /// What a search found: the normal leader of least complexity in its range,
 /// the smallest where several tie.
 #[derive(Clone, Copy, Debug, PartialEq, Eq, Hash)]
@@ -95,6 +128,52 @@ impl Best {
     /// grade.
     pub fn kind(&self) -> Option<Grade> {
         Grade::try_from(self.grade).ok()
+    }
+
+    /// The result of a search over two adjoining ranges of one field, from the
+    /// results over each: the better of the two, the left one on a tie, with
+    /// the counts of both. Nothing counts as 0.
+    ///
+    /// The left range is the one of the smaller elements. Parts are folded
+    /// from left to right, beginning with nothing.
+    ///
+    /// ```
+    /// use sabrentuglio::{search, Best};
+    ///
+    /// let (left, right) = (search(19, 0, 8)?, search(19, 9, 15)?);
+    /// assert_eq!(Best::joined(left, right), search(19, 0, 15)?);
+    ///
+    /// let parts = [left, search(19, 9, 11)?, search(19, 12, 15)?];
+    /// let whole = parts.into_iter().fold(None, Best::joined);
+    /// assert_eq!(whole, search(19, 0, 15)?);
+    /// # Ok::<(), sabrentuglio::Refusal>(())
+    /// ```
+    pub fn joined(left: Option<Best>, right: Option<Best>) -> Option<Best> {
+        let (l, r) = match (left, right) {
+            (Some(l), Some(r)) => (l, r),
+            (found, None) | (None, found) => return found,
+        };
+        let better = if r.complexity < l.complexity { r } else { l };
+        let count = l.count + r.count;
+        Some(Best { count, ..better })
+    }
+}
+
+/// The line that the command line prints.
+///
+/// ```
+/// let best = sabrentuglio::search(19, 0, 15)?.expect("8 is normal");
+/// assert_eq!(best.to_string(), "element 8 complexity 7 grade 1 count 2");
+/// # Ok::<(), sabrentuglio::Refusal>(())
+/// ```
+impl fmt::Display for Best {
+    fn fmt(&self, out: &mut fmt::Formatter<'_>) -> fmt::Result {
+        write!(
+            out,
+            "element {} complexity {} ",
+            self.element, self.complexity
+        )?;
+        write!(out, "grade {} count {}", self.grade, self.count)
     }
 }
 
@@ -167,5 +246,40 @@ mod tests {
         assert_eq!(refusal.reason(), Some(Reason::TooLarge));
         assert_eq!(refusal.place, 17);
         assert_eq!(Result::from(raw::Found::default()), Ok(None));
+    }
+
+    #[test]
+    fn joined_parts_are_the_whole() {
+        // Every cut of the whole field and of three ranges in it, in fields
+        // of degree 5, 6 and 8.
+        for (f, size) in [(37, 32), (67, 64), (283, 256)] {
+            let part = |first, last| crate::search(f, first, last).unwrap();
+            for (first, last) in [(0, size - 1), (0, size / 2), (5, 29), (7, 31)] {
+                for cut in first..last {
+                    let parts = (part(first, cut), part(cut + 1, last));
+                    let joined = Best::joined(parts.0, parts.1);
+                    assert_eq!(joined, part(first, last), "{f} {first} {cut} {last}");
+                }
+            }
+        }
+    }
+
+    #[test]
+    fn the_left_one_is_kept_on_a_tie() {
+        let best = |element, complexity, count| {
+            let grade = 0;
+            Some(Best {
+                element,
+                complexity,
+                grade,
+                count,
+            })
+        };
+        let (left, right) = (best(3, 9, 2), best(5, 9, 4));
+        assert_eq!(Best::joined(left, right), best(3, 9, 6));
+        assert_eq!(Best::joined(left, best(5, 7, 4)), best(5, 7, 6));
+        assert_eq!(Best::joined(None, right), right);
+        assert_eq!(Best::joined(left, None), left);
+        assert_eq!(Best::joined(None, None), None);
     }
 }

@@ -13,6 +13,7 @@
 //! [`multiply`], [`square`], [`trace`], [`build`], [`read`], [`to_polynomial`],
 //! [`to_normal`], [`list_to_polynomial`], [`list_to_normal`], [`times`],
 //! [`search`]. [`raw`] has the same with the answers as flat numbers.
+//! [`Polynomial`] parses what a designer types, as the command line does.
 //!
 //! Every number is a legal argument. What the desk does not do it refuses, with
 //! a [`Refusal`], and then every buffer and list stays as it came.
@@ -38,9 +39,12 @@
 
 mod answer;
 mod calls;
+mod lists;
 pub mod raw;
 mod refusal;
+mod rows;
 mod sheet;
+mod words;
 
 pub use answer::{Best, Grade, Summary};
 pub use calls::{
@@ -48,7 +52,12 @@ pub use calls::{
     to_normal, to_polynomial, trace,
 };
 pub use refusal::{Reason, Refusal, UnknownNumber};
+pub use rows::{Row, Rows};
 pub use sheet::Sheet;
+pub use words::{number_of, polynomial_of, Polynomial, UnclearWord};
+
+/// The version of the crate, which is that of the whole product.
+pub const VERSION: &str = env!("CARGO_PKG_VERSION");
 
 /// The length of one record of a sheet in bytes.
 pub const RECORD_LENGTH: usize = 32;
@@ -57,7 +66,8 @@ pub const RECORD_LENGTH: usize = 32;
 /// sheet.
 pub const MAX_DEGREE: usize = 46;
 
-/// The most values of a list.
+/// The most values of a list of one call. A [`Sheet`] converts longer lists by
+/// several calls.
 pub const MAX_LIST: usize = 4096;
 
 /// The example of the README is run with the others.

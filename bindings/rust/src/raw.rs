@@ -62,6 +62,16 @@ pub struct Found {
     pub count: u64,
 }
 
+/// What a typed word means; both are zero where it is unclear.
+#[repr(C)]
+#[derive(Clone, Copy, Debug, Default, PartialEq, Eq)]
+pub struct Word {
+    /// 1 where the word means a number, else 0.
+    pub clear: u64,
+    /// That number.
+    pub value: u64,
+}
+
 extern "C" {
     fn desk_check(f: u64) -> Value;
     fn desk_multiply(f: u64, a: u64, b: u64) -> Value;
@@ -89,6 +99,8 @@ extern "C" {
     ) -> Value;
     fn desk_times(sheet: *const u8, length: usize, a: u64, b: u64) -> Value;
     fn desk_search(f: u64, first: u64, last: u64) -> Found;
+    fn desk_number_of(word: *const u8, length: usize) -> Word;
+    fn desk_polynomial_of(word: *const u8, length: usize) -> Word;
 }
 
 /// `desk_check`: whether f is accepted.
@@ -183,4 +195,16 @@ pub fn times(sheet: &[u8], a: u64, b: u64) -> Value {
 pub fn search(f: u64, first: u64, last: u64) -> Found {
     // SAFETY: only numbers go over, and every number is a legal argument.
     unsafe { desk_search(f, first, last) }
+}
+
+/// `desk_number_of`: the number that a word means.
+pub fn number_of(word: &[u8]) -> Word {
+    // SAFETY: as in `read`.
+    unsafe { desk_number_of(word.as_ptr(), word.len()) }
+}
+
+/// `desk_polynomial_of`: the polynomial that a word means.
+pub fn polynomial_of(word: &[u8]) -> Word {
+    // SAFETY: as in `read`.
+    unsafe { desk_polynomial_of(word.as_ptr(), word.len()) }
 }

@@ -2,7 +2,9 @@
 
 use crate::answer::Summary;
 use crate::refusal::Refusal;
+use crate::rows::{number, Row, Rows};
 use crate::{calls, MAX_DEGREE, RECORD_LENGTH};
+use std::fmt;
 
 /// The sheet of one normal basis.
 ///
@@ -89,7 +91,7 @@ impl Sheet {
     /// # Ok::<(), sabrentuglio::Refusal>(())
     /// ```
     pub fn polynomial(&self) -> u64 {
-        1 << self.summary.degree | self.number(2, 6)
+        1 << self.summary.degree | number(&self.bytes[2..8])
     }
 
     /// The normal element that the sheet was built from, its conjugate row 0.
@@ -99,14 +101,34 @@ impl Sheet {
     /// # Ok::<(), sabrentuglio::Refusal>(())
     /// ```
     pub fn element(&self) -> u64 {
-        self.number(8, 8)
+        number(&self.bytes[8..16])
     }
 
-    /// The little-endian number of record 0 at an offset.
-    fn number(&self, offset: usize, length: usize) -> u64 {
-        let mut bytes = [0; 8];
-        bytes[..length].copy_from_slice(&self.bytes[offset..offset + length]);
-        u64::from_le_bytes(bytes)
+    /// The n rows, from row 0 on.
+    ///
+    /// ```
+    /// let sheet = sabrentuglio::Sheet::build(11, 3)?;
+    /// let conjugates: Vec<u64> = sheet.rows().map(|row| row.conjugate).collect();
+    /// assert_eq!(conjugates, [3, 5, 7]);
+    ///
+    /// let ones: u32 = sheet.rows().map(|row| row.table.count_ones()).sum();
+    /// assert_eq!(u64::from(ones), sheet.summary().complexity);
+    /// # Ok::<(), sabrentuglio::Refusal>(())
+    /// ```
+    pub fn rows(&self) -> Rows<'_> {
+        Rows::new(&self.bytes)
+    }
+
+    /// Row i; `None` where i is n or more.
+    ///
+    /// ```
+    /// let sheet = sabrentuglio::Sheet::build(11, 3)?;
+    /// assert_eq!(sheet.row(2).map(|row| row.table), Some(6));
+    /// assert_eq!(sheet.row(3), None);
+    /// # Ok::<(), sabrentuglio::Refusal>(())
+    /// ```
+    pub fn row(&self, i: usize) -> Option<Row> {
+        self.rows().nth(i)
     }
 
     /// The element that normal coordinates stand for.
@@ -144,48 +166,98 @@ impl Sheet {
     pub fn times(&self, a: u64, b: u64) -> Result<u64, Refusal> {
         calls::times(&self.bytes, a, b)
     }
+}
 
-    /// The elements that a list of normal coordinates stands for.
-    ///
-    /// Refuses 11 where the list has more than 4,096 values, then 4 at the
-    /// first value that is too large.
-    ///
-    /// ```
-    /// let sheet = sabrentuglio::Sheet::build(11, 3)?;
-    /// assert_eq!(sheet.list_to_polynomial(&[3, 5])?, [6, 4]);
-    /// # Ok::<(), sabrentuglio::Refusal>(())
-    /// ```
-    pub fn list_to_polynomial(&self, from: &[u64]) -> Result<Vec<u64>, Refusal> {
-        let mut into = vec![0; from.len()];
-        calls::list_to_polynomial(&self.bytes, from, &mut into)?;
-        Ok(into)
+/// The listing, as the lister prints it; the last line is not ended, so that
+/// `println!` ends it.
+///
+/// ```
+/// let sheet = sabrentuglio::Sheet::build(11, 3)?;
+/// let listing = "0 3 7 2\n1 5 6 5\n2 7 5 6\ncomplexity 5 grade 2";
+/// assert_eq!(sheet.to_string(), listing);
+/// # Ok::<(), sabrentuglio::Refusal>(())
+/// ```
+impl fmt::Display for Sheet {
+    fn fmt(&self, out: &mut fmt::Formatter<'_>) -> fmt::Result {
+        for (i, row) in self.rows().enumerate() {
+            writeln!(out, "{} {} {} {}", i, row.conjugate, row.inverse, row.table)?;
+        }
+        let (complexity, grade) = (self.summary.complexity, self.summary.grade);
+        write!(out, "complexity {} grade {}", complexity, grade)
     }
+}
 
-    /// The normal coordinates of a list of elements.
-    ///
-    /// Refuses 11 where the list has more than 4,096 values, then 4 at the
-    /// first value that is too large.
-    ///
-    /// ```
-    /// use sabrentuglio::{Reason, Sheet, MAX_LIST};
-    ///
-    /// let sheet = Sheet::build(11, 3)?;
-    /// assert_eq!(sheet.list_to_normal(&[6, 4])?, [3, 5]);
-    /// assert_eq!(sheet.list_to_normal(&[])?, []);
-    ///
-    /// let refusal = sheet.list_to_normal(&[0; MAX_LIST + 1]).unwrap_err();
-    /// assert_eq!(refusal.reason(), Some(Reason::ListLength));
-    /// # Ok::<(), sabrentuglio::Refusal>(())
-    /// ```
-    pub fn list_to_normal(&self, from: &[u64]) -> Result<Vec<u64>, Refusal> {
-        let mut into = vec![0; from.len()];
-        calls::list_to_normal(&self.bytes, from, &mut into)?;
-        Ok(into)
+impl<'a> IntoIterator for &'a Sheet {
+    type Item = Row;
+    type IntoIter = Rows<'a>;
+
+    fn into_iter(self) -> Rows<'a> {
+        self.rows()
+    }
+}
+
+/// As [`Sheet::read`]. Bytes that are refused are not copied.
+impl TryFrom<&[u8]> for Sheet {
+    type Error = Refusal;
+
+    fn try_from(bytes: &[u8]) -> Result<Sheet, Refusal> {
+        let summary = calls::read(bytes)?;
+        let bytes = bytes.to_vec();
+        Ok(Sheet { bytes, summary })
+    }
+}
+
+/// As [`Sheet::read`].
+///
+/// ```
+/// use sabrentuglio::Sheet;
+///
+/// let bytes = Sheet::build(11, 3)?.into_bytes();
+/// let sheet = Sheet::try_from(bytes)?;
+/// assert_eq!(sheet.element(), 3);
+/// # Ok::<(), sabrentuglio::Refusal>(())
+/// ```
+impl TryFrom<Vec<u8>> for Sheet {
+    type Error = Refusal;
+
+    fn try_from(bytes: Vec<u8>) -> Result<Sheet, Refusal> {
+        Sheet::read(bytes)
     }
 }
 
 impl AsRef<[u8]> for Sheet {
     fn as_ref(&self) -> &[u8] {
         &self.bytes
+    }
+}
+
+#[cfg(test)]
+mod tests {
+    use super::*;
+
+    /// The page whose section on the lister has the listing of 11 and 3.
+    const PAGE: &str = include_str!("../../../docs/CALLS.md");
+
+    #[test]
+    fn the_listing_is_that_of_the_page() {
+        let lister = PAGE.split("## The lister").nth(1).unwrap();
+        let printed = format!("{}\n", Sheet::build(11, 3).unwrap());
+        let indented: String = printed.lines().map(|l| format!("    {}\n", l)).collect();
+        assert!(lister.contains(&format!("\n\n{}\n", indented)));
+    }
+
+    #[test]
+    fn bytes_become_a_sheet_where_reading_accepts_them() {
+        let sheet = Sheet::build(19, 8).unwrap();
+        let mut bytes = sheet.as_bytes().to_vec();
+        assert_eq!(Sheet::try_from(&bytes[..]), Ok(sheet.clone()));
+        assert_eq!(Sheet::try_from(bytes.clone()), Ok(sheet));
+        bytes[RECORD_LENGTH + 24] ^= 1;
+        let refused = Err(Refusal {
+            number: 10,
+            place: 1,
+        });
+        assert_eq!(Sheet::try_from(&bytes[..]), refused);
+        assert_eq!(Sheet::try_from(bytes), refused);
     }
 }
