@@ -2,9 +2,14 @@
 //!
 //! It lies in `target/staticlib` at the repository's root, or in the folder
 //! that SABRENTUGLIO_ARCHIVE_DIR names.
+//!
+//! A crate that depends on this one and has C of its own finds two folders in
+//! its build script's environment: that of the archive in
+//! DEP_SABRENTUGLIO_ARCHIVE_DIR, and that of the header in
+//! DEP_SABRENTUGLIO_INCLUDE.
 
 use std::env;
-use std::path::PathBuf;
+use std::path::{Path, PathBuf};
 use std::process::exit;
 
 const FOLDER: &str = "SABRENTUGLIO_ARCHIVE_DIR";
@@ -25,10 +30,25 @@ fn main() {
         );
         exit(1);
     }
-    // The linker runs elsewhere, so that a relative name would lead astray.
-    let folder = folder.canonicalize().unwrap_or(folder);
+    let folder = absolute(&folder);
     println!("cargo:rustc-link-search=native={}", folder.display());
     println!("cargo:rustc-link-lib=static=capi");
+    println!("cargo:archive_dir={}", folder.display());
+    hand_on_header();
+}
+
+/// A copy of the crate alone has no header, and hands none on.
+fn hand_on_header() {
+    let include = manifest_folder().join("../../include");
+    if include.join("sabrentuglio.h").is_file() {
+        println!("cargo:include={}", absolute(&include).display());
+    }
+}
+
+/// The linker and other build scripts run elsewhere, so that a relative name
+/// would lead astray.
+fn absolute(folder: &Path) -> PathBuf {
+    folder.canonicalize().unwrap_or_else(|_| folder.to_owned())
 }
 
 fn manifest_folder() -> PathBuf {
