@@ -46,13 +46,22 @@
  * A call that is done has place 0. A refusal has zeros in all but number and place, and all memory
  * that the call borrowed is unchanged.
  *
+ * Besides the twelve calls, desk_number_of and desk_polynomial_of say what a typed word means, as
+ * the command line reads it. They refuse nothing: a word is clear or unclear.
+ *
  * What the caller must do:
- *   - A pointer is not null, not even at length 0. It is aligned for its type and valid for its
- *     length: for reading if it is `const`, else for reading and writing. Lengths are in bytes for
- *     a sheet and a buffer, in values for a list.
+ *   - A pointer is not null, not even at length 0. Nothing in Rattle can test a pointer, and the
+ *     compiler may assume that the pointer of a slice is not null. At length 0 any other aligned
+ *     address will do: no byte there is read or written.
+ *   - A pointer is aligned for its type and valid for its length: for reading if it is `const`,
+ *     else for reading and writing. Lengths are in bytes for a sheet, a buffer and a word, in
+ *     values for a list.
  *   - Memory that a call writes (`buffer`, `into`) overlaps nothing else that the same call
- *     borrows, neither a sheet nor `from`.
+ *     borrows, neither a sheet nor `from`. So no list is converted in place, with `from` and `into`
+ *     the same: the proof speaks of two separate memories, and the compiler may rely on that.
+ *     Convert into a second list.
  *   - While the call runs, nothing else writes memory that it borrows, or reads `buffer` or `into`.
+ *   - The stack has room: SABRENTUGLIO_STACK below.
  * No call keeps a pointer, allocates, or has state of its own. Within these rules several calls may
  * run at the same time.
  *
@@ -63,6 +72,20 @@
 
 #include <stddef.h>
 #include <stdint.h>
+
+/* The version of the product, which the archive, the command line and the Rust crate share. */
+#define SABRENTUGLIO_VERSION "1.0.0"
+
+/*
+ * The bytes of stack that a call may take, rounded up from a measurement, bindings/c/stack.c: no
+ * call takes more than the first, and no call but desk_search more than the second. Measured were
+ * 67 KiB for desk_search, 14 for the two that convert a list, 9 for desk_read, 8 for desk_build and
+ * less than 1 for each of the others. The amount does not grow with a range or a list. It includes
+ * memcpy and memset of the C library, and not the dynamic linker, which may look them up at the
+ * first call.
+ */
+#define SABRENTUGLIO_STACK 73728
+#define SABRENTUGLIO_STACK_BUT_SEARCH 16384
 
 #ifdef __cplusplus
 extern "C" {
@@ -107,6 +130,15 @@ typedef struct desk_found {
     uint64_t grade;
     uint64_t count;
 } desk_found;
+
+/*
+ * The result of desk_number_of and desk_polynomial_of: clear is 1 and value is what the word means,
+ * or both are 0 and the word is unclear.
+ */
+typedef struct desk_word {
+    uint64_t clear;
+    uint64_t value;
+} desk_word;
 
 /*
  * Checks whether f is accepted: its degree is 2 to 46, no polynomial of degree 1 to n-1 divides it,
@@ -196,6 +228,22 @@ desk_value desk_times(const uint8_t *sheet, size_t length, uint64_t a, uint64_t 
  * Refusals in order: 1, 4, 12, 2, 3.
  */
 desk_found desk_search(uint64_t f, uint64_t first, uint64_t last);
+
+/*
+ * Returns the number that a word means: one or more decimal digits, or `0x` and then one or more
+ * hexadecimal digits, small or capital; leading zeros are allowed. It is below 2^64. Any other word
+ * is unclear, an empty one too. A word needs no zero byte at its end. Writes nothing.
+ * Refusals in order: none.
+ */
+desk_word desk_number_of(const uint8_t *word, size_t length);
+
+/*
+ * Returns the polynomial that a word means: a number as in desk_number_of, or two or more decimal
+ * exponents below 64 that fall strictly, with one colon between. 4:1:0 is x^4 + x + 1, which is 19.
+ * Any other word is unclear. Writes nothing.
+ * Refusals in order: none.
+ */
+desk_word desk_polynomial_of(const uint8_t *word, size_t length);
 
 #ifdef __cplusplus
 }
