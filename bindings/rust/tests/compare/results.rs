@@ -149,6 +149,8 @@ fn owned(random: &mut Random, field: &Field) {
         (sheet.polynomial(), sheet.element()),
         (basis.f, basis.element)
     );
+    let conjugates: Vec<u64> = sheet.rows().map(|row| row.conjugate).collect();
+    assert_eq!(conjugates, plain::basis::conjugates(basis.f, basis.element));
     let from = random.elements(field.n, 20);
     let there = sheet.list_to_normal(&from).expect("all are elements");
     let back = sheet.list_to_polynomial(&there);
