@@ -69,7 +69,6 @@
  */
 #ifndef SABRENTUGLIO_H
 #define SABRENTUGLIO_H
-#define SABRENTUGLIO_VERSION "1.0.0"
 
 #include <stddef.h>
 #include <stdint.h>
