@@ -58,7 +58,7 @@ pub(crate) fn is_dash(i: usize) -> bool {
 }
 
 // Puts the path that word i is at the buffer's front, and returns its length.
-pub(crate) fn path_at(i: usize, path: &mut [u8; 4096]) -> usize
+pub(crate) fn path_at(i: usize, path: &mut [u8]) -> usize
     ensures { λ r. ⌜ Counts r (now (path .exit)) ⌝ }
 {
     os::arg(i, path)

@@ -2,6 +2,7 @@
 // otherwise the file stays as it was.
 ghost use Prim.Native.Nat.{_<_};
 ghost use Rattle.io.specs.Counts.{Counts};
+use super::complaints::say;
 use super::input::path_at;
 use super::options::Given;
 use super::output::Output;
@@ -15,6 +16,9 @@ use streams::done_if;
 
 // The longest path that a name beside it has room for.
 const LONGEST: usize = 4000;
+
+// The place of the byte that ends a path for C.
+const LAST: usize = 4095;
 
 // A byte as a number.
 fn wide(byte: u8) -> u64
@@ -74,9 +78,34 @@ fn open_beside(path: &[u8], mark: u64) -> i32 {
     let size = name_beside(path, mark, &mut space);
     let created = os::create(&space[..size]);
     if created < 0 {
-        cannot(b"write", &space[..size]);
+        cannot(b"write", path);
     }
     created
+}
+
+// Whether word i names a link.
+fn is_link(i: usize) -> bool {
+    let mut path = io::buffer();
+    path_at(i, &mut path);
+    path[LAST] = 0;
+    let mut target = [0u8; 1];
+    libc::readlink(&path, &mut target) >= 0
+}
+
+// A new file beside the one that word i names, open for writing; -1 if there is none, and a line has said so. A link stays: another name
+// would take its place, and not that of the file that it leads to.
+fn open_replaced(i: usize, mark: u64) -> i32 {
+    let mut path = io::buffer();
+    let size = path_at(i, &mut path);
+    if size == 0 || size > LONGEST {
+        say(b"desk: cannot write a path that is empty or has more than 4000 bytes\n");
+        return -1;
+    }
+    if is_link(i) {
+        say(b"desk: cannot write a link; name the file that it leads to\n");
+        return -1;
+    }
+    open_beside(&path[..size], mark)
 }
 
 // What answers are written to. If it cannot be opened, a line says so, and its descriptor is -1.
@@ -84,9 +113,7 @@ pub(crate) fn open_output(given: Given) -> Output {
     let mark = chance();
     let mut descriptor = STDOUT_FILENO;
     if given.to != 0 {
-        let mut path = io::buffer();
-        let size = path_at(given.to, &mut path);
-        descriptor = open_beside(&path[..size], mark);
+        descriptor = open_replaced(given.to, mark);
     }
     Output {
         descriptor,
