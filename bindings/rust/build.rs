@@ -1,4 +1,5 @@
-//! Hands the linker the desk's archive, `libcapi.a`.
+//! Hands the linker the desk's archive, `libcapi.a`, or `libsabrentuglio.a` as
+//! it is called where it is installed.
 //!
 //! It lies in `target/staticlib` at the repository's root, or in the folder
 //! that SABRENTUGLIO_ARCHIVE_DIR names.
@@ -14,25 +15,29 @@ use std::process::exit;
 
 const FOLDER: &str = "SABRENTUGLIO_ARCHIVE_DIR";
 
+/// The archive's names, as built and as installed.
+const NAMES: [&str; 2] = ["capi", "sabrentuglio"];
+
 fn main() {
     println!("cargo:rerun-if-env-changed={}", FOLDER);
     let folder = match env::var_os(FOLDER) {
         Some(named) => PathBuf::from(named),
         None => manifest_folder().join("../../target/staticlib"),
     };
-    let archive = folder.join("libcapi.a");
-    println!("cargo:rerun-if-changed={}", archive.display());
-    if !archive.is_file() {
+    let archive = |name: &str| folder.join(format!("lib{}.a", name));
+    let name = NAMES.iter().find(|name| archive(name).is_file());
+    let name = name.unwrap_or_else(|| {
         eprintln!(
             "{} is missing: run `rt staticlib capi` at the repository's root, or name its folder in {}",
-            archive.display(),
+            archive(NAMES[0]).display(),
             FOLDER
         );
         exit(1);
-    }
+    });
+    println!("cargo:rerun-if-changed={}", archive(name).display());
     let folder = absolute(&folder);
     println!("cargo:rustc-link-search=native={}", folder.display());
-    println!("cargo:rustc-link-lib=static=capi");
+    println!("cargo:rustc-link-lib=static={}", name);
     println!("cargo:archive_dir={}", folder.display());
     hand_on_header();
 }

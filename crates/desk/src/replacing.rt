@@ -62,9 +62,7 @@ fn may_replace(path: &[u8]) -> bool {
         return os::errno() == ENOENT;
     }
     let regular = is_regular(opened);
-    if regular {
-        libc::close(opened);
-    }
+    libc::close(opened);
     regular
 }
 
