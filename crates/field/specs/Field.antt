@@ -4,6 +4,7 @@
 --
 --   squared f n k a   a squared k times in a row: the conjugate c_k of a, where a is below 2 ^ n
 --   powMod f n a e    the power of a with exponent e; c_k is the one with exponent 2 ^ k, where a is below 2 ^ n (`powMod-squared`)
+--   traceTo f n k a   the sum of the first k conjugates, where a is below 2 ^ n
 --   trace f n a       the sum of all n conjugates, where a is below 2 ^ n
 --   Irreducible f     f is no product of two polynomials other than 1
 --

@@ -2,7 +2,7 @@
 --
 --   rangeRule, searchOrder     "Search: 1, 4, 12, 2, 3."
 --   searchAnswer f first last  the answer, as a function of the inputs
---   SearchReport               the paper's reading of an answer; `caseReport` gives it for each case of the enum
+--   SearchReport               document 01's reading of an answer; `caseReport` gives it for each case of the enum
 --   searchReport f first last  the numbers that the order's verdict gives
 --
 -- Assumes nothing.
