@@ -13,7 +13,7 @@ use super::converting::convert_list;
 use super::filling::Stop;
 use super::filling::fill;
 use super::input::degree_named;
-use super::input::word_space;
+use super::input::line_space;
 use super::lines::CHUNK;
 use super::lines::Cursor;
 use super::output::Output;
@@ -40,7 +40,7 @@ fn counted(place: usize, list: &[u64]) -> usize
     place
 }
 
-// The values of a list before a place, converted and written.
+// The values of a list before a place, converted and written. Each slice is taken by a count that is known to fit it.
 fn convert_before(
     goal: Notation,
     bytes: &[u8],
@@ -103,7 +103,7 @@ fn convert_part(
     }
 }
 
-// Line number `line` is no value.
+// The start of what is said of a line: its number.
 fn say_line(line: u64) {
     say(b"desk: line ");
     say_number(line);
@@ -173,7 +173,7 @@ fn next_part(
     ensures { λ r. ⌜ r .cursor .size ≤ 65536 ⌝ }
 {
     let before = cursor.line;
-    let mut word = word_space();
+    let mut word = line_space();
     let mut from = list_space();
     let mut into = list_space();
     let filled = fill(goal, descriptor, name, chunk, cursor, &mut word, &mut from);

@@ -12,9 +12,28 @@ pub(crate) fn say_number(number: u64) -> bool {
     io::print_decimal(STDERR_FILENO, number)
 }
 
+// A byte as it is, or its number in hexadecimal if a terminal would take it for a command.
+fn say_byte(byte: u8) -> bool {
+    if byte >= 32 && byte != 127 {
+        return say(&[byte]);
+    }
+    say(b"\\x") && io::print_hex(STDERR_FILENO, byte as u64, 2)
+}
+
+fn say_bytes(word: &[u8]) -> bool {
+    let mut i: usize = 0;
+    while i < word.len() {
+        if !say_byte(word[i]) {
+            return false;
+        }
+        i += 1;
+    }
+    true
+}
+
 // A word between quotes.
 pub(crate) fn say_quoted(word: &[u8]) -> bool {
-    say(b"'") && say(word) && say(b"'")
+    say(b"'") && say_bytes(word) && say(b"'")
 }
 
 // Word i, between quotes. One that is too long for the space is not shown.
@@ -78,11 +97,19 @@ pub(crate) fn unknown_option(i: usize) -> Ending {
     Ending::BadWord
 }
 
-// Option i is the last word, where a file is to follow, or was given before.
+// Option i is the last word, and a file is to follow it.
 pub(crate) fn no_file(i: usize) -> Ending {
     say(b"desk: ");
     say_word(i);
-    say(b" goes once, with a file after it\n");
+    say(b" needs a file after it\n");
+    Ending::BadWord
+}
+
+// Option i was given before.
+pub(crate) fn given_twice(i: usize) -> Ending {
+    say(b"desk: ");
+    say_word(i);
+    say(b" was given twice\n");
     Ending::BadWord
 }
 
@@ -108,6 +135,8 @@ pub(crate) fn too_many_values() -> Ending {
 
 // A sheet would go to a terminal.
 pub(crate) fn no_text() -> Ending {
-    say(b"desk: a sheet is bytes and no text for a terminal; write: desk build F ELEMENT > FILE\n");
+    say(
+        b"desk: a sheet is bytes and no text for a terminal; write: desk build F ELEMENT > FILE, or --to FILE\n",
+    );
     Ending::BadWord
 }

@@ -8,7 +8,7 @@ use super::lines::Kind;
 use super::lines::next_line;
 use words::Word;
 
-// Why a list has no more values: it is full; the input has ended; the last line is no value; it is too long; a read failed.
+// Why a list has no more values: it is full, or the next line would have to be waited for; the input has ended; the last line is no value; it is too long; a read failed.
 pub(crate) enum Stop {
     Full,
     End,
@@ -55,7 +55,12 @@ fn take(goal: Notation, kind: Kind, word: &[u8]) -> Taken {
     }
 }
 
-// The next values of the input, as many as a list has room for. A word that is no value stays at the front of `word`.
+// Whether another line would have to be waited for while there are values to convert. So each line that is typed is answered at once.
+fn waits(cursor: Cursor, count: usize) -> bool {
+    count > 0 && cursor.at >= cursor.size
+}
+
+// The next values of the input, as many as a list has room for or as were read. A word that is no value stays at the front of `word`.
 pub(crate) fn fill(
     goal: Notation,
     descriptor: i32,
@@ -72,6 +77,14 @@ pub(crate) fn fill(
     let mut size: usize = 0;
     let mut count: usize = 0;
     while count < values.len() {
+        if waits(cursor, count) {
+            return Filled {
+                count,
+                cursor,
+                size,
+                stop: Stop::Full,
+            };
+        }
         let line = next_line(descriptor, name, chunk, cursor, word);
         let next = line.cursor;
         cursor = next;

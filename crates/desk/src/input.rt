@@ -18,10 +18,19 @@ pub(crate) const WORD_ROOM: usize = 256;
 // A sheet's room, and one byte by which a longer input shows.
 pub(crate) const INPUT_ROOM: usize = RECORD * LIMIT + 1;
 
+// A line's room: that of a word, and one byte by which a longer line shows.
+pub(crate) const LINE_ROOM: usize = WORD_ROOM + 1;
+
 pub(crate) fn word_space() -> [u8; WORD_ROOM]
     ensures { λ r. ⌜ 256 ≡ length r ⌝ }
 {
     [0; WORD_ROOM]
+}
+
+pub(crate) fn line_space() -> [u8; LINE_ROOM]
+    ensures { λ r. ⌜ 257 ≡ length r ⌝ }
+{
+    [0; LINE_ROOM]
 }
 
 // Word i as a polynomial. If it is none, a line says so.

@@ -65,20 +65,27 @@ fn command_given(places: &[usize; WORDS_ROOM], given: Given) -> Command {
     command_of(&space[..size])
 }
 
-// Whether the command reads values by line.
+// Whether the command may have values by line. A page is printed whatever else is given.
 fn takes_values(command: Command) -> bool {
     match command {
         Command::Normal => true,
         Command::Polynomial => true,
+        Command::Help => true,
+        Command::Version => true,
         _ => false,
     }
 }
 
-// The option at a place cannot be used.
-fn refuse_option(i: usize) -> Ending {
+// The option at a place cannot be used: it is unknown, its file is missing, or it was given before.
+fn refuse_option(i: usize, awaits: usize) -> Ending {
     match options::mark_at(i) {
         Mark::Unknown => complaints::unknown_option(i),
-        _ => complaints::no_file(i),
+        _ => {
+            if i == awaits {
+                return complaints::no_file(i);
+            }
+            complaints::given_twice(i)
+        }
     }
 }
 
@@ -100,7 +107,7 @@ fn answer() -> Ending {
     let mut places = options::places_space();
     let given = options::gather(&mut places);
     if given.fault != 0 {
-        return refuse_option(given.fault);
+        return refuse_option(given.fault, given.awaits);
     }
     answer_given(&places, given)
 }

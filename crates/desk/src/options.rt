@@ -1,4 +1,4 @@
-// The words and the options of the command line. An option begins with two dashes and may stand anywhere.
+// The words and the options of the command line. An option begins with two dashes, or is -h, and may stand anywhere.
 ghost use mathlib.Core.Path.{_≡_};
 ghost use lib.ListN.{length};
 use super::input::word_space;
@@ -75,6 +75,11 @@ pub(crate) fn mark_at(i: usize) -> Mark {
     mark_of(&space[..size])
 }
 
+// The first of the options that cannot be used: the one known, or else this one.
+fn first_fault(known: usize, i: usize) -> usize {
+    if known != 0 { known } else { i }
+}
+
 // Option i, with all that was given before it.
 fn with_option(given: Given, i: usize, mark: Mark) -> Given {
     let mut given = given;
@@ -84,7 +89,7 @@ fn with_option(given: Given, i: usize, mark: Mark) -> Given {
         Mark::Version => given.version = true,
         Mark::To => given.awaits = i,
         Mark::From => given.awaits = i,
-        Mark::Unknown => given.fault = i,
+        Mark::Unknown => given.fault = first_fault(given.fault, i),
         Mark::Word => {}
     }
     given
@@ -98,13 +103,13 @@ fn with_file(given: Given, i: usize) -> Given {
     match mark_at(option) {
         Mark::To => {
             if given.to != 0 {
-                given.fault = option;
+                given.fault = first_fault(given.fault, option);
             }
             given.to = i;
         }
         _ => {
             if given.from != 0 {
-                given.fault = option;
+                given.fault = first_fault(given.fault, option);
             }
             given.from = i;
         }
@@ -155,8 +160,6 @@ pub(crate) fn gather(places: &mut [usize; WORDS_ROOM]) -> Given {
         given = with_next(given, i, places);
         i += 1;
     }
-    if given.awaits != 0 {
-        given.fault = given.awaits;
-    }
+    given.fault = first_fault(given.fault, given.awaits);
     given
 }

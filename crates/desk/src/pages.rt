@@ -22,10 +22,14 @@ fn put_sheet_commands(output: Output) -> bool {
             b"desk list SHEET                 a sheet, read and listed; without SHEET, standard input\n",
         )
         && output.put(
-            b"desk verify SHEET               whether a sheet is right: degree, F, element, complexity and grade\n",
+            b"desk verify SHEET               whether a sheet is right: degree, F, element, complexity and grade;\n                                without SHEET, standard input\n",
         )
-        && output.put(b"desk normal SHEET VALUE..       the normal coordinates of elements\n")
-        && output.put(b"desk polynomial SHEET VALUE..   the elements of normal coordinates\n")
+        && output.put(
+            b"desk normal SHEET VALUE..       the normal coordinates of elements; with - for VALUE, from standard input\n",
+        )
+        && output.put(
+            b"desk polynomial SHEET VALUE..   the elements of normal coordinates; with - for VALUE, from standard input\n",
+        )
         && output.put(b"desk times SHEET A B            the product of normal coordinates\n")
 }
 
@@ -52,10 +56,10 @@ fn put_notations(output: Output) -> bool {
             b"coefficient of x^i: x^4 + x + 1 is 19, 0x13 or, by its exponents, 4:1:0. Coordinates are decimal or 0x\n",
         )
         && output.put(
-            b"hexadecimal numbers. SHEET is a file that desk build wrote, or - for standard input. With - in place of\n",
+            b"hexadecimal numbers. SHEET is a file that desk build wrote, or - for standard input. By line come\n",
         )
         && output.put(
-            b"the values, normal and polynomial read any number of them from standard input, one a line.\n",
+            b"any number of values, one each; a line that is no value ends the command, and those before it are converted.\n",
         )
         && output.put(
             b"A listing has a line for each row: its number, conjugate, inverse row and table row.\n",

@@ -3,11 +3,12 @@
 ghost use Prim.Native.Nat.{_<_};
 ghost use Rattle.io.specs.Counts.{Counts};
 use super::complaints::say;
+use super::input::is_dash;
 use super::input::path_at;
 use super::options::Given;
 use super::output::Output;
 use libc::ENOENT;
-use libc::SEEK_END;
+use libc::SEEK_SET;
 use libc::STDOUT_FILENO;
 use listing::put_bytes;
 use streams::Ending;
@@ -49,27 +50,35 @@ fn name_beside(path: &[u8], mark: u64, space: &mut [u8; 4096]) -> usize
     put_bytes(space, second, &digits[..count])
 }
 
-// Whether an open file is one of bytes that can be cut: no device, no pipe.
+// Whether an open file is one of bytes: the reader can be placed past its first byte, as in no terminal, no pipe and no device such as
+// /dev/null.
 fn is_regular(descriptor: i32) -> bool {
-    let end = libc::lseek(descriptor, 0, SEEK_END);
-    libc::ftruncate(descriptor, end) == 0
+    libc::lseek(descriptor, 1, SEEK_SET) == 1
 }
 
-// Whether a path may be replaced: nothing is there, or a regular file that may be written.
+// Whether a path may be replaced: nothing is there, or a regular file that may be written. If not, a line says why.
 fn may_replace(path: &[u8]) -> bool {
     let opened = os::open_update(path);
     if opened < 0 {
-        return os::errno() == ENOENT;
+        if os::errno() == ENOENT {
+            return true;
+        }
+        cannot(b"write", path);
+        return false;
     }
     let regular = is_regular(opened);
     libc::close(opened);
+    if !regular {
+        say(b"desk: cannot write ");
+        say(path);
+        say(b": it is no regular file\n");
+    }
     regular
 }
 
 // A new file beside the path, open for writing; -1 if there is none, and a line has said so.
 fn open_beside(path: &[u8], mark: u64) -> i32 {
     if !may_replace(path) {
-        cannot(b"write", path);
         return -1;
     }
     let mut space = io::buffer();
@@ -106,16 +115,25 @@ fn open_replaced(i: usize, mark: u64) -> i32 {
     open_beside(&path[..size], mark)
 }
 
+// The place of the file that --to names; 0 for standard output, which `-` stands for too.
+fn place_to(given: Given) -> usize {
+    if given.to == 0 {
+        return 0;
+    }
+    if is_dash(given.to) { 0 } else { given.to }
+}
+
 // What answers are written to. If it cannot be opened, a line says so, and its descriptor is -1.
 pub(crate) fn open_output(given: Given) -> Output {
+    let place = place_to(given);
     let mark = chance();
     let mut descriptor = STDOUT_FILENO;
-    if given.to != 0 {
-        descriptor = open_replaced(given.to, mark);
+    if place != 0 {
+        descriptor = open_replaced(place, mark);
     }
     Output {
         descriptor,
-        place: given.to,
+        place,
         mark,
         hex: given.hex,
     }
@@ -148,7 +166,7 @@ fn drop(descriptor: i32, path: &[u8], mark: u64) {
 // The end of a command that is done: what the system still held back is written now, or that fails.
 fn finish(output: Output) -> Ending {
     if output.place == 0 {
-        return done_if(streams::close_output());
+        return done_if(streams::finish_output());
     }
     let mut path = io::buffer();
     let size = path_at(output.place, &mut path);

@@ -1,14 +1,15 @@
 // The lister (document 01, "Lister"): reads a sheet from standard input and prints its listing. One byte past 46 records is enough to
 // tell that the input is longer, which is refusal 7.
 use gf2::LIMIT;
+use libc::STDERR_FILENO;
 use libc::STDIN_FILENO;
 use listing::LISTING_ROOM;
 use sheet::Issued;
 use sheet::RECORD;
 use streams::Ending;
 use streams::cannot;
-use streams::close_output;
 use streams::end;
+use streams::finish_output;
 use streams::read_whole;
 use streams::write_output;
 
@@ -23,13 +24,20 @@ fn ending_of(sheet: &[u8]) -> Ending {
 fn list(sheet: &[u8]) -> Ending {
     let mut text = [0u8; LISTING_ROOM];
     let end = listing::listing(sheet, &mut text);
-    if write_output(&text[..end]) && close_output() {
+    if write_output(&text[..end]) && finish_output() {
         return ending_of(sheet);
     }
     Ending::Failed
 }
 
 fn answer() -> Ending {
+    if os::arg_count() > 1 {
+        io::write_all(
+            STDERR_FILENO,
+            b"desk: the lister takes no words; write: lister < SHEET\n",
+        );
+        return Ending::BadWord;
+    }
     let mut input = [0u8; RECORD * LIMIT + 1];
     let got = read_whole(STDIN_FILENO, &mut input);
     if got < 0 {

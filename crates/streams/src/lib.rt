@@ -9,6 +9,6 @@ pub use ending::done_if;
 pub use ending::end;
 pub use reading::read_whole;
 pub use writing::cannot;
-pub use writing::close_output;
+pub use writing::finish_output;
 pub use writing::write_output;
 pub use writing::write_whole;

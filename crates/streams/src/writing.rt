@@ -26,7 +26,7 @@ pub fn write_output(text: &[u8]) -> bool {
 
 // Closes standard output and returns true. If the system held something back that it now fails to write, a line says so, and it
 // returns false.
-pub fn close_output() -> bool {
+pub fn finish_output() -> bool {
     if libc::close(STDOUT_FILENO) == 0 {
         return true;
     }

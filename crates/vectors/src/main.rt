@@ -16,9 +16,9 @@ mod records;
 mod searches;
 mod sheets;
 
-use streams::close_output;
 use streams::done_if;
 use streams::end;
+use streams::finish_output;
 
 fn run() -> bool {
     complexities::run()
@@ -28,7 +28,7 @@ fn run() -> bool {
         && checks::run()
         && searches::run()
         && records::run()
-        && close_output()
+        && finish_output()
 }
 
 fn main() {

@@ -1,7 +1,6 @@
 -- `desk::by_line::counted` meets its contract. Assumes nothing.
 use mathlib.Core.Path.{sym}
 use native.Mathlib.Omega.{arith}
-use borrow.Author.Needs.{needs}
 use lib.Seq.{length-take-le}
 use Rattle.desk.proofs.by_line.counted.Statement.{statement}
 use Rattle.desk.proofs.by_line.counted.Tie as tie

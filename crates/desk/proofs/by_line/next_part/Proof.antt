@@ -6,8 +6,8 @@ use lib.Seq.{length-take-le}
 use Rattle.desk.proofs.by_line.next_part.Statement.{statement}
 use Rattle.desk.proofs.by_line.next_part.Tie as tie
 
-word-space-requires : tie.Need-word-space-requires
-word-space-requires c κs = search needs
+line-space-requires : tie.Need-line-space-requires
+line-space-requires c κs = search needs
 
 list-space-requires : tie.Need-list-space-requires
 list-space-requires c κs = search needs
@@ -70,7 +70,7 @@ pub next-part-spec : {M : Type 1} → statement M
 next-part-spec =
     tie.close
     (tie.spec
-    word-space-requires
+    line-space-requires
     list-space-requires
     list-space-requires-2
     slice-aggregate-fill

@@ -17,6 +17,18 @@ abbrev μ-loop : tie.MeasureT-loop
 loop-holds : tie.Need-loop-holds Inv-loop μ-loop
 loop-holds c = (omega arith, refl, refl, omega arith, omega arith)
 
+waits-requires : tie.Need-waits-requires Inv-loop μ-loop
+waits-requires c κs = search needs
+
+same-length : tie.Need-same-length Inv-loop μ-loop
+same-length c = search needs
+
+same-length-2 : tie.Need-same-length-2 Inv-loop μ-loop
+same-length-2 c = search needs
+
+returns : tie.Need-returns Inv-loop μ-loop
+returns c = (omega arith, (omega arith, sym (length-take-le _ _ (omega arith))), (omega arith, sym (length-take-le _ _ (omega arith))))
+
 next-line-requires : tie.Need-next-line-requires Inv-loop μ-loop
 next-line-requires c κs = search needs
 
@@ -32,14 +44,14 @@ take-requires c κs = search needs
 enum-known-stop : tie.Need-enum-known-stop Inv-loop μ-loop
 enum-known-stop c = search needs
 
-same-length : tie.Need-same-length Inv-loop μ-loop
-same-length c = search needs
+same-length-3 : tie.Need-same-length-3 Inv-loop μ-loop
+same-length-3 c = search needs
 
-same-length-2 : tie.Need-same-length-2 Inv-loop μ-loop
-same-length-2 c = search needs
+same-length-4 : tie.Need-same-length-4 Inv-loop μ-loop
+same-length-4 c = search needs
 
-returns : tie.Need-returns Inv-loop μ-loop
-returns c = (omega arith, (omega arith, sym (length-take-le _ _ (omega arith))), (omega arith, sym (length-take-le _ _ (omega arith))))
+returns-2 : tie.Need-returns-2 Inv-loop μ-loop
+returns-2 c = (omega arith, (omega arith, sym (length-take-le _ _ (omega arith))), (omega arith, sym (length-take-le _ _ (omega arith))))
 
 enum-known-value : tie.Need-enum-known-value Inv-loop μ-loop
 enum-known-value c = search needs
@@ -59,14 +71,14 @@ loop-less c = omega arith
 loop-again : tie.Need-loop-again Inv-loop μ-loop
 loop-again c = (omega arith, search needs, search needs, omega arith, omega arith)
 
-same-length-3 : tie.Need-same-length-3 Inv-loop μ-loop
-same-length-3 c = search needs
+same-length-5 : tie.Need-same-length-5 Inv-loop μ-loop
+same-length-5 c = search needs
 
-same-length-4 : tie.Need-same-length-4 Inv-loop μ-loop
-same-length-4 c = search needs
+same-length-6 : tie.Need-same-length-6 Inv-loop μ-loop
+same-length-6 c = search needs
 
-returns-2 : tie.Need-returns-2 Inv-loop μ-loop
-returns-2 c = (omega arith, (omega arith, sym (length-take-le _ _ (omega arith))), (omega arith, sym (length-take-le _ _ (omega arith))))
+returns-3 : tie.Need-returns-3 Inv-loop μ-loop
+returns-3 c = (omega arith, (omega arith, sym (length-take-le _ _ (omega arith))), (omega arith, sym (length-take-le _ _ (omega arith))))
 
 pub fill-spec : {M : Type 1} → statement M
 fill-spec =
@@ -75,20 +87,24 @@ fill-spec =
     Inv-loop
     μ-loop
     loop-holds
+    waits-requires
+    same-length
+    same-length-2
+    returns
     next-line-requires
     slice-reshare-prefix-take
     slice-aggregate-take
     take-requires
     enum-known-stop
-    same-length
-    same-length-2
-    returns
+    same-length-3
+    same-length-4
+    returns-2
     enum-known-value
     mul-values
     slice-write-values
     add-count
     loop-less
     loop-again
-    same-length-3
-    same-length-4
-    returns-2)
+    same-length-5
+    same-length-6
+    returns-3)

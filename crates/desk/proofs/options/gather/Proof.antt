@@ -29,11 +29,11 @@ loop-less c = omega arith
 loop-again : tie.Need-loop-again Inv-loop μ-loop
 loop-again c = omega arith
 
+first-fault-requires : tie.Need-first-fault-requires Inv-loop μ-loop
+first-fault-requires c κs = search needs
+
 returns : tie.Need-returns Inv-loop μ-loop
 returns c = search needs
-
-returns-2 : tie.Need-returns-2 Inv-loop μ-loop
-returns-2 c = search needs
 
 pub gather-spec : {M : Type 1} → statement M
 gather-spec =
@@ -47,5 +47,5 @@ gather-spec =
     add-i
     loop-less
     loop-again
-    returns
-    returns-2)
+    first-fault-requires
+    returns)

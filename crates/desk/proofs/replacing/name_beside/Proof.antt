@@ -1,5 +1,5 @@
 -- `desk::replacing::name_beside` meets its contract: the path, six bytes and at most 20 digits have room. Assumes nothing.
-use mathlib.Core.Path.{_≡_, sym}
+use mathlib.Core.Path.{sym}
 use Prim.Native.Nat.{_≤_}
 use native.Mathlib.Omega.{arith}
 use borrow.Author.Needs.{needs}
