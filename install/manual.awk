@@ -1,7 +1,7 @@
-# Makes a manual page of a program's help. Variables: name, version, and says, what the program is in a few words.
+# Makes a manual page of a program's help. Variables: name, version, says, what the program is in a few words, and run, how it is run.
 #
-# A line `NAME WORDS   what it does` is a command; an indented line after it goes on with it. Other lines are paragraphs, and an
-# indented line in one stands as it is.
+# A line `NAME WORDS   what it does` is a command, `--NAME WORDS   what it does` an option; an indented line after one goes on with it.
+# The line `Exit status: ..` has a section of its own. Other lines are paragraphs, and an indented line in one stands as it is.
 
 # The text as the page's own language has it: no character of it is taken for a request.
 function plain(text) {
@@ -26,10 +26,12 @@ BEGIN {
     print ".nh"
     section("NAME")
     print name " \\- " plain(says)
+    section("SYNOPSIS")
+    print ".B " plain(run)
 }
-index($0, name " ") == 1 && match($0, /   *[^ ]/) {
+(index($0, name " ") == 1 || index($0, "--") == 1) && match($0, /   *[^ ]/) {
     verbatim(0)
-    section("COMMANDS")
+    section(index($0, "--") == 1 ? "OPTIONS" : "COMMANDS")
     text = substr($0, RSTART)
     sub(/^ +/, "", text)
     print ".TP"
@@ -47,6 +49,13 @@ index($0, name " ") == 1 && match($0, /   *[^ ]/) {
 command && /^ / {
     sub(/^ +/, "")
     print plain($0)
+    next
+}
+sub(/^Exit status: /, "") {
+    verbatim(0)
+    section("EXIT STATUS")
+    print plain($0)
+    gap = command = 0
     next
 }
 {
