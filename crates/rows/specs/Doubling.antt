@@ -5,23 +5,24 @@
 --   tabled t at rows sums         what stands at place at, doubled by the first t rows
 --   tables m rows sums            m tables, each of eight rows
 --
--- In order: what doubling keeps and what it adds; a table's entries; the tables are `byteSums` (`tables-sums`).
+-- In order: what doubling keeps and what it adds; a table's entries; the tables are `byteSums` (`tables-sums`), and those of the rows that are
+-- not zero alone are too, where zeros stand past them (`tables-enough`).
 -- Assumes nothing.
 use mathlib.Core.Path.{_≡_, refl, sym, ap, _∙_}
 use mathlib.Core.Logic.{⊎-elim}
-use mathlib.Core.List.{List}
+use mathlib.Core.List.{List, []}
 use Prim.Native.Nat.{ℕ, zero, suc, _+_, _-_, _*_, _/_, _%_, _^_, _≤_, _<_}
 use native.Mathlib.Nat.{not-suc-le-zero, add-zero, pow-suc}
 use native.Mathlib.Numerals.{add-one}
 use native.Mathlib.Omega.{arith}
 use lib.Arith.{lt-one}
 use lib.ListN.{length, getD, set, drop, length-set}
-use lib.Seq.{getD-set-same, getD-set-other, ext-getD}
+use lib.Seq.{getD-set-same, getD-set-other, getD-drop, ext-getD}
 use Rattle.gf2.specs.Poly.{_⊕_}
 use Rattle.gf2.specs.Numbers.{order}
 use Rattle.gf2.specs.Sum.{⊕-comm, ⊕-top}
 use Rattle.rows.specs.Rows.{comb}
-use Rattle.rows.specs.Sums.{comb-⊕, comb-zero, comb-power}
+use Rattle.rows.specs.Sums.{comb-⊕, comb-zero, comb-power, comb-same, comb-nil}
 use Rattle.rows.specs.ByteSums.{byteSums, byteSums-at, byteSums-length}
 
 unfoldable pub doubled : (m at count row : ℕ) (sums : List ℕ) → List ℕ
@@ -49,6 +50,12 @@ module _ (at count row : ℕ) (sums : List ℕ) where
   unfolding doubled
   doubled-below zero k h = refl
   doubled-below (suc m) k h = getD-set-other (doubled m at count row sums) (at + count + m) k _ 0 (λ e. omega arith) ∙ doubled-below m k h
+
+  -- and what stands past it
+  doubled-above : (m k : ℕ) → at + count + m ≤ k → getD (doubled m at count row sums) k 0 ≡ getD sums k 0
+  unfolding doubled
+  doubled-above zero k h = refl
+  doubled-above (suc m) k h = getD-set-other (doubled m at count row sums) (at + count + m) k _ 0 (λ e. omega arith) ∙ doubled-above m k (omega arith)
 
   doubled-at : (m b : ℕ) → m ≤ count → at + count + m ≤ length sums → b < m → getD (doubled m at count row sums) (at + count + b) 0 ≡ getD sums (at + b) 0 ⊕ row
   unfolding doubled
@@ -81,6 +88,14 @@ module _ (at : ℕ) (rows sums : List ℕ) where
   unfolding tabled
   tabled-below zero k h = refl
   tabled-below (suc t) k h = doubled-below at (2 ^ t) (getD rows t 0) (tabled t at rows sums) (2 ^ t) k (omega arith) ∙ tabled-below t k h
+
+  -- and what stands past it
+  tabled-above : (t k : ℕ) → at + 2 ^ t ≤ k → getD (tabled t at rows sums) k 0 ≡ getD sums k 0
+  unfolding tabled
+  tabled-above zero k h = refl
+  tabled-above (suc t) k h =
+      let w : at + 2 ^ t * 2 ≤ k = rw pow-suc at h in
+      doubled-above at (2 ^ t) (getD rows t 0) (tabled t at rows sums) (2 ^ t) k (omega arith) ∙ tabled-above t k (omega arith)
 
   -- a number with the bit t picks row t beside what the bits below pick
   comb-next : (t b : ℕ) → b < 2 ^ t → comb rows b ⊕ getD rows t 0 ≡ comb rows (2 ^ t + b)
@@ -166,3 +181,34 @@ module _ (rows sums : List ℕ) where
       ∙ tables-at m j b (omega arith) inside small
       ∙ sym (byteSums-at m rows j b inside small)
       ∙ ap (λ (i : ℕ). getD (byteSums m rows) i 0) whole)
+
+  -- ---- where only the first rows are not zero
+
+  tables-above : (m k : ℕ) → 256 * m ≤ k → getD (tables m rows sums) k 0 ≡ getD sums k 0
+  unfolding tables
+  tables-above zero k h = refl
+  tables-above (suc m) k h =
+      tabled-above (256 * m) (drop (8 * m) rows) (set (tables m rows sums) (256 * m) 0) 8 k (omega arith)
+      ∙ getD-set-other (tables m rows sums) (256 * m) k 0 0 (λ e. omega arith)
+      ∙ tables-above m k (omega arith)
+
+  -- m of k tables are enough, if the rows past them are zero and so are the entries past them
+  pub tables-enough : (m k : ℕ) → m ≤ k → length sums ≡ 256 * k → ((i : ℕ) → getD sums i 0 ≡ 0) → ((i : ℕ) → 8 * m ≤ i → getD rows i 0 ≡ 0)
+      → tables m rows sums ≡ byteSums k rows
+  tables-enough m k few l none rest =
+      ext-getD 0 (tables m rows sums) (byteSums k rows)
+      (tables-length m ∙ l ∙ sym (byteSums-length k rows))
+      (λ i h.
+      let j : ℕ = i / 256 in
+      let b : ℕ = i % 256 in
+      let whole : 256 * j + b ≡ i = omega arith in
+      let inside : j < k = omega (arith, tables-length m) in
+      let small : b < 256 = omega arith in
+      rw (sym whole)
+      (⊎-elim
+      (λ (q : j < m). tables-at m j b (omega arith) q small ∙ sym (byteSums-at k rows j b inside small))
+      (λ (q : m ≤ j).
+      tables-above m (256 * j + b) (omega arith)
+      ∙ none (256 * j + b)
+      ∙ sym (byteSums-at k rows j b inside small ∙ comb-same (drop (8 * j) rows) [] (λ t. getD-drop (8 * j) rows t 0 ∙ rest (8 * j + t) (omega arith)) b ∙ comb-nil b))
+      (order j m)))

@@ -2,8 +2,9 @@
 // for each of its bytes. Where many numbers pick among the same rows this is several times faster than `sum`.
 ghost use mathlib.Core.Path.{_≡_};
 ghost use Prim.Native.Nat.{_+_, _*_, _≤_, _<_};
-ghost use lib.ListN.{length, getD, set, drop};
+ghost use lib.ListN.{length, getD, set, drop, replicate};
 ghost use Rattle.gf2.specs.Limit.{limit};
+ghost use Rattle.rows.specs.Rows.{Matrix};
 ghost use Rattle.rows.specs.ByteSums.{bytes, byteSums, pickedBytes};
 ghost use Rattle.rows.specs.Doubling.{doubled, tabled};
 use super::bits::power;
@@ -51,6 +52,17 @@ pub fn byte_sums(rows: [u64; LIMIT], sums: &mut [u64; BYTE_SUMS])
     ensures { λ r. ⌜ now (sums .exit) ≡ byteSums bytes rows ⌝ }
 {
     for j in 0..BYTES {
+        byte_table(&rows, j, sums);
+    }
+}
+
+// All tables of a matrix of degree n, in an array of zeros: rows from n on are zero, and so is what they sum to. At low degrees this takes a
+// part of the time.
+pub fn degree_sums(rows: [u64; LIMIT], n: usize, sums: &mut [u64; BYTE_SUMS])
+    requires { ⌜ Matrix rows n × (n ≤ limit) × (now sums ≡ replicate (256 * bytes) 0) ⌝ }
+    ensures { λ r. ⌜ now (sums .exit) ≡ byteSums bytes rows ⌝ }
+{
+    for j in 0..(n + 7) / 8 {
         byte_table(&rows, j, sums);
     }
 }

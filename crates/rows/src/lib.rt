@@ -8,6 +8,7 @@ mod sums;
 pub use bits::power;
 pub use by_bytes::BYTE_SUMS;
 pub use by_bytes::byte_sums;
+pub use by_bytes::degree_sums;
 pub use by_bytes::sum_by_bytes;
 pub use inversion::invert;
 pub use sums::sum;
