@@ -25,12 +25,12 @@ use Rattle.field.specs.Frobenius.{squared-add, squared-mulMod, squared-fixes}
 use Rattle.rows.specs.Rows.{Independent}
 use Rattle.rows.specs.Sums.{comb-power}
 use Rattle.normal.specs.Normal.{conjugates, coordinates, tableRows, complexity}
-use Rattle.normal.specs.TableProduct.{rotate, total}
+use Rattle.normal.specs.TableProduct.{rotate, rotatedBy, total}
 use Rattle.normal.specs.Rotation.{half-power, rotate-cases}
 use Rattle.normal.specs.Selected.{conjugates-at}
 use Rattle.normal.specs.Coordinates.{coordinates-unique, coordinates-are, tableRows-at, tableRows-length}
 use Rattle.normal.specs.Products.{tableRows-table}
-use Rattle.normal.specs.Turns.{rotatedBy, rotatedBy-lt}
+use Rattle.normal.specs.Turns.{rotatedBy-lt}
 use Rattle.normal.specs.Reference.{turned-squared}
 
 -- ---- rotating keeps the number of ones

@@ -1,6 +1,7 @@
--- What a normal basis is: definitions in `Normal`, `TableProduct`, `Grades` and `Basis`, laws in the rest.
+-- What a normal basis is: definitions in `Normal`, `TableProduct`, `Powers`, `Grades` and `Basis`, laws in the rest.
 pub mod Normal
 pub mod TableProduct
+pub mod Powers
 pub mod Grades
 pub mod Basis
 pub mod Rotation
@@ -11,6 +12,10 @@ pub mod ProductBits
 pub mod Conjugated
 pub mod Filling
 pub mod Turns
+pub mod Summed
+pub mod Recursion
+pub mod ConjugateSide
+pub mod Standing
 pub mod Building
 pub mod Reference
 pub mod Halves

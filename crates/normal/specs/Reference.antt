@@ -26,11 +26,11 @@ use Rattle.rows.specs.Rows.{comb, Independent}
 use Rattle.rows.specs.Linear.{linear-ext, linear-after}
 use Rattle.rows.specs.Sums.{comb-⊕, comb-zero, comb-power}
 use Rattle.normal.specs.Normal.{conjugates, normal, coordinates, inverseRows, tableRows}
-use Rattle.normal.specs.TableProduct.{rotate}
+use Rattle.normal.specs.TableProduct.{rotate, rotatedBy}
 use Rattle.normal.specs.Rotation.{half-power, rotate-small, rotate-large}
 use Rattle.normal.specs.Selected.{conjugates-at, selected-lt, rotate-square}
 use Rattle.normal.specs.Coordinates.{normal-means, coordinates-unique, coordinates-are, convert-coordinates, tableRows-at}
-use Rattle.normal.specs.Turns.{rotatedBy, rotatedBy-lt}
+use Rattle.normal.specs.Turns.{rotatedBy-lt}
 
 -- ---- modulo t ^ n + 1
 

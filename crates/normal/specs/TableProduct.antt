@@ -1,7 +1,8 @@
 -- The product of normal coordinates through the table, and the rotation of coordinates (document 01, "Two notations" and "What a
 -- sheet holds"). Definitions alone. The rows are any rows: a sheet's as they stand.
 --
---   rotate n v               "Squaring turns bit i into bit i+1, and bit n-1 into bit 0."
+--   rotate n v               "Squaring turns bit i into bit i+1, and bit n-1 into bit 0.", for v below 2^n
+--   rotatedBy n i v          v rotated i places
 --   entry rows i j           t(i,j), bit j of row i
 --   total k g                the sum of g 0 to g (k - 1)
 --   productBit n rows a b k  bit k of the product of a and b
@@ -19,6 +20,10 @@ use Rattle.rows.specs.Rows.{Matrix}
 -- what stands above bit n-1 once all bits are moved up comes round to bit 0
 unfoldable pub rotate : (n v : ℕ) → ℕ
 rotate n v = v * 2 % 2 ^ n + v * 2 / 2 ^ n
+
+unfoldable pub rotatedBy : (n i v : ℕ) → ℕ
+rotatedBy n zero v = v
+rotatedBy n (suc i) v = rotate n (rotatedBy n i v)
 
 abbrev pub entry : (rows : List ℕ) (i j : ℕ) → ℕ
 entry rows i j = bitOf (getD rows i 0) j

@@ -1,16 +1,17 @@
 -- One turn of each loop over rows and coordinates, as laws on numbers and lists: the list of conjugates, the count of ones, the test
--- for a prime, the product by turns.
+-- for a prime, rotations in a row, the product by turns.
 --
---   rotatedBy n i v   v rotated i times; n times is v itself
+--   Taken n T a b product turned i   what the loop of a product through the rows T holds, with the bits of a from i upward taken
 --
 -- Assumes nothing.
-use mathlib.Core.Path.{_≡_, sym, ap, _∙_}
+use mathlib.Core.Path.{_≡_, sym, ap, ap₂, _∙_}
 use mathlib.Core.Bool.{Bool, true, false, _&&_}
 use mathlib.Core.List.{List, [], _∷_, _++_}
 use Prim.Native.Nat.{ℕ, zero, suc, _+_, _-_, _*_, _/_, _%_, _^_, _≤_, _<_}
-use native.Mathlib.Nat.{add-zero, zero-add, zero-mul, add-assoc, suc-mul, mod-lt, mod-eq-of-lt, mod-add-mod, add-mul-mod-self-right, mul-comm, sub-add-cancel}
+use native.Mathlib.Nat.{div-one, add-zero, zero-add, zero-mul, add-assoc, suc-mul, mod-lt, mod-eq-of-lt, mod-add-mod, add-mul-mod-self-right, mul-comm, sub-add-cancel}
 use native.Mathlib.Numerals.{add-one}
 use native.Mathlib.Omega.{arith}
+use lib.Bits.{bitXor}
 use lib.Count.{ones}
 use lib.Dec.{ltb, eqb}
 use lib.ListN.{length, getD, take}
@@ -26,13 +27,13 @@ use Rattle.rows.specs.Rows.{comb}
 use Rattle.rows.specs.Bits.{bitOf}
 use Rattle.gf2.specs.Truth.{and-both, and-parts}
 use Rattle.normal.specs.Normal.{conjugates, listed, complexity}
-use Rattle.normal.specs.TableProduct.{rotate}
+use Rattle.normal.specs.TableProduct.{rotate, rotatedBy, tableProduct}
 use Rattle.normal.specs.Grades.{prime}
 use Rattle.normal.specs.Rotation.{rotate-lt, rotateBack-rotate, rotate-bit}
 use Rattle.normal.specs.Selected.{conjugates-at, conjugates-length}
 use Rattle.normal.specs.Coordinates.{listed-at, listed-length}
-use Rattle.normal.specs.Products.{hornerProduct}
-use Rattle.normal.specs.ProductBits.{bits-ext}
+use Rattle.normal.specs.Products.{hornerProduct, hornerProduct-lt}
+use Rattle.normal.specs.ProductBits.{bits-ext, horner-table}
 
 -- ---- conjugates
 
@@ -73,10 +74,6 @@ prime-true p hp none =
 
 -- ---- rotations in a row
 
-unfoldable pub rotatedBy : (n i v : ℕ) → ℕ
-rotatedBy n zero v = v
-rotatedBy n (suc i) v = rotate n (rotatedBy n i v)
-
 module _ (n : ℕ) (pos : 1 ≤ n) where
   pub rotatedBy-lt : (i v : ℕ) → v < 2 ^ n → rotatedBy n i v < 2 ^ n
   unfolding rotatedBy
@@ -104,7 +101,7 @@ module _ (n : ℕ) (pos : 1 ≤ n) where
   -- ---- the product by turns
 
   -- bit i of a is taken, with the coordinates rotated once more
-  pub horner-turn : (T : List ℕ) (i a product turned : ℕ) → 0 < i → i ≤ n → turned < 2 ^ n
+  horner-turn : (T : List ℕ) (i a product turned : ℕ) → 0 < i → i ≤ n → turned < 2 ^ n
       → product ≡ hornerProduct n T (n - i) (a / 2 ^ i) turned
       → rotate n product ⊕ (a / 2 ^ (i - 1) % 2) * comb T (rotate n turned) ≡ hornerProduct n T (n - (i - 1)) (a / 2 ^ (i - 1)) (rotate n turned)
   unfolding hornerProduct
@@ -113,3 +110,40 @@ module _ (n : ℕ) (pos : 1 ≤ n) where
       let back : i - 1 + 1 ≡ i = sub-add-cancel p in
       let half : a / 2 ^ (i - 1) / 2 ≡ a / 2 ^ i = shr-shr a (i - 1) 1 ∙ ap (λ (x : ℕ). a / 2 ^ x) back in
       rw (s, half, rotateBack-rotate n pos turned h, ← e) (⊕-comm (rotate n product) _)
+
+-- turned is b rotated as often as bits are taken, and product the product by turns of the bits of a from i upward
+pub record Taken (n : ℕ) (T : List ℕ) (a b product turned i : ℕ) : Type 0 where
+  pub most : i ≤ n
+  pub turns : turned ≡ rotatedBy n (n - i) b
+  pub sum : product ≡ hornerProduct n T (n - i) (a / 2 ^ i) turned
+
+pub taken-none : (n : ℕ) (T : List ℕ) (a b : ℕ) → Taken n T a b 0 b n
+unfolding rotatedBy hornerProduct
+taken-none n T a b = let z : n - n ≡ 0 = omega arith in record { most = omega arith; turns = rw z; sum = rw z }
+
+module _ (n : ℕ) (pos : 1 ≤ n) (T : List ℕ) (size : length T ≡ n) (row-lt : (i : ℕ) → i < n → getD T i 0 < 2 ^ n) (a b : ℕ) (hb : b < 2 ^ n) where
+  module _ (product turned i : ℕ) (t : Taken n T a b product turned i) where
+    pub turned-lt : turned < 2 ^ n
+    turned-lt = rw (t .turns) (rotatedBy-lt n pos (n - i) b hb)
+
+    pub product-lt : product < 2 ^ n
+    product-lt = rw (t .sum) (hornerProduct-lt n pos T row-lt (n - i) (a / 2 ^ i) turned turned-lt)
+
+    -- one turn: both are rotated, and bit i - 1 of a adds the rows that turned now picks
+    pub taken-next : 0 < i → (turned′ product′ part sum : ℕ) → turned′ ≡ rotate n turned → product′ ≡ rotate n product
+        → sum ≡ comb T (rotate n turned) → part ≡ (a / 2 ^ (i - 1) % 2) * sum → Taken n T a b (bitXor product′ part) turned′ (i - 1)
+    unfolding rotatedBy _⊕_
+    taken-next p turned′ product′ part sum et ep es e =
+        let s : n - (i - 1) ≡ suc (n - i) = omega (arith, t .most) in
+        record {
+          most = omega (arith, t .most);
+          turns = et ∙ rw (s, t .turns);
+          sum = rw (ep, e, es, et) (horner-turn n pos T i a product turned p (t .most) turned-lt (t .sum));
+        }
+
+    pub taken-all : i ≡ 0 → product ≡ tableProduct n T a b
+    taken-all z =
+        let s : n - i ≡ n = omega arith in
+        let back : turned ≡ b = t .turns ∙ ap (λ (k : ℕ). rotatedBy n k b) s ∙ rotatedBy-round n pos b hb in
+        t .sum ∙ ap₂ (λ (k u : ℕ). hornerProduct n T k u turned) s (ap (λ (k : ℕ). a / 2 ^ k) z ∙ div-one a)
+        ∙ ap (hornerProduct n T n a) back ∙ horner-table n pos T size row-lt a b hb

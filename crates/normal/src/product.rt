@@ -8,7 +8,7 @@ use gf2::picked;
 use rows::sum;
 
 // Bit i goes to i + 1, and bit n - 1 to 0.
-fn rotated(n: u32, v: u64) -> u64
+pub fn rotated(n: u32, v: u64) -> u64
     requires { ⌜ (n < 64) × (v < 2 ^ n) ⌝ }
     ensures { λ r. ⌜ r ≡ rotate n v ⌝ }
 {
