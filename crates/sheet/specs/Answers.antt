@@ -6,6 +6,7 @@
 --   summaryOf f n a               "Build and reading answer n, complexity and grade."
 --   toPolynomial, toNormal        the two conversions of a value, by the rows as they stand
 --   throughTable                  the product, by the table as it stands
+--   inverseThrough, quotientThrough   the inverse and the quotient, by the table as it stands
 --   ..Answer, ..Report            the calls, as functions of their inputs
 --   builtBuffer, ..List           what the lent buffer and list hold at the end
 --
@@ -21,9 +22,10 @@ use Rattle.refusals.specs.declared.answer.Checked.{Checked}
 use Rattle.rows.specs.Rows.{comb}
 use Rattle.normal.specs.Normal.{tableRows, complexity}
 use Rattle.normal.specs.TableProduct.{tableProduct}
+use Rattle.normal.specs.Powers.{inverseOf, quotientOf}
 use Rattle.normal.specs.Grades.{gradeOf, gradeNumber}
 use Rattle.sheet.specs.Record.{recordCount, conjugateIn, polynomialIn, conjugateRowsIn, inverseRowsIn, tableRowsIn, sheetBytes}
-use Rattle.sheet.specs.Orders.{buildOrder, readOrder, polynomialOrder, normalOrder, timesOrder, polynomialListOrder, normalListOrder}
+use Rattle.sheet.specs.Orders.{buildOrder, readOrder, polynomialOrder, normalOrder, timesOrder, inverseOrder, quotientOrder, polynomialListOrder, normalListOrder}
 use Rattle.sheet.specs.declared.answer.Summary.{Summary}
 use Rattle.sheet.specs.declared.answer.Issued.{Issued}
 use Rattle.sheet.specs.declared.answer.Issued.the-variants as issued
@@ -111,6 +113,28 @@ timesAnswer sheet a b = valueOf (firstOf (timesOrder sheet a b)) (throughTable s
 
 unfoldable pub timesReport : (sheet : List ℕ) (a b : ℕ) → Report
 timesReport sheet a b = reportOf (firstOf (timesOrder sheet a b)) (throughTable sheet a b)
+
+-- ---- dividing (document 02, §1): "On other well-shaped sheets the same steps give the answer."
+
+-- "The inverse is the power for n-1, rotated once"
+unfoldable pub inverseThrough : (sheet : List ℕ) (a : ℕ) → ℕ
+inverseThrough sheet a = inverseOf (recordCount sheet) (tableRowsIn sheet) a
+
+unfoldable pub inverseAnswer : (sheet : List ℕ) (a : ℕ) → Value
+inverseAnswer sheet a = valueOf (firstOf (inverseOrder sheet a)) (inverseThrough sheet a)
+
+unfoldable pub inverseReport : (sheet : List ℕ) (a : ℕ) → Report
+inverseReport sheet a = reportOf (firstOf (inverseOrder sheet a)) (inverseThrough sheet a)
+
+-- "a quotient is the dividend times the inverse"
+unfoldable pub quotientThrough : (sheet : List ℕ) (dividend divisor : ℕ) → ℕ
+quotientThrough sheet dividend divisor = quotientOf (recordCount sheet) (tableRowsIn sheet) dividend divisor
+
+unfoldable pub quotientAnswer : (sheet : List ℕ) (dividend divisor : ℕ) → Value
+quotientAnswer sheet dividend divisor = valueOf (firstOf (quotientOrder sheet dividend divisor)) (quotientThrough sheet dividend divisor)
+
+unfoldable pub quotientReport : (sheet : List ℕ) (dividend divisor : ℕ) → Report
+quotientReport sheet dividend divisor = reportOf (firstOf (quotientOrder sheet dividend divisor)) (quotientThrough sheet dividend divisor)
 
 -- ---- lists: every value converted, or the list as it came
 

@@ -10,6 +10,7 @@ pub mod Basis
 pub mod Answered
 pub mod Building
 pub mod Converting
+pub mod Dividing
 pub mod Lists
 pub mod Reading
 pub mod Rebuilding
@@ -20,3 +21,4 @@ pub mod Issuing
 pub mod Held
 pub mod Through
 pub mod Issued
+pub mod Divided

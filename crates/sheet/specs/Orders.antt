@@ -1,5 +1,5 @@
--- The refusals of the calls on sheets (document 01, "Refusal numbers"): the rows 5 to 11 of the table, row 4 for a list, and the orders of
--- build, reading, converting and multiplying. Definitions alone.
+-- The refusals of the calls on sheets (document 01, "Refusal numbers"; document 02, §1): the rows 5 to 11 of the table, row 4 for a list, and
+-- 13, which §1 adds; and the orders of build, reading, converting, multiplying and dividing. Definitions alone.
 --
 --   ..Rule, ..Rules   the rows of the table; those that go record by record, or value by value
 --   ..Order           the orders of the calls, and parts of them
@@ -82,6 +82,10 @@ unfoldable pub valueRules : (n i : ℕ) → List ℕ → List Rule
 valueRules n i [] = []
 valueRules n i (v ∷ vs) = record { number = 4; place = i; applies = tooLarge n v } ∷ valueRules n (i + 1) vs
 
+-- "13, divisor or number to invert zero"
+abbrev pub zeroRule : (v : ℕ) → Rule
+zeroRule v = record { number = 13; place = 0; applies = eqb v 0 }
+
 -- ---- the orders
 
 -- build's order up to its last condition, which is decided when the basis is built
@@ -125,6 +129,13 @@ normalOrder sheet element = valueOrder sheet (element ∷ [])
 
 abbrev pub timesOrder : (sheet : List ℕ) (a b : ℕ) → List Rule
 timesOrder sheet a b = valueOrder sheet (a ∷ b ∷ [])
+
+-- the inverse and the quotient: the same, and then "13, .. after 4"
+abbrev pub inverseOrder : (sheet : List ℕ) (a : ℕ) → List Rule
+inverseOrder sheet a = valueOrder sheet (a ∷ []) ++ (zeroRule a ∷ [])
+
+abbrev pub quotientOrder : (sheet : List ℕ) (dividend divisor : ℕ) → List Rule
+quotientOrder sheet dividend divisor = valueOrder sheet (dividend ∷ divisor ∷ []) ++ (zeroRule divisor ∷ [])
 
 -- "Convert a list: the same, with 11 before 4."
 abbrev pub listOrder : (sheet from : List ℕ) (room : ℕ) → List Rule

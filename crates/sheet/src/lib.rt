@@ -1,7 +1,8 @@
-// Sheets: records of 32 bytes, and the calls that build, read, convert and multiply through them.
+// Sheets: records of 32 bytes, and the calls that build, read, convert, multiply and divide through them.
 mod answer;
 mod building;
 mod converting;
+mod dividing;
 mod layout;
 mod lists;
 mod loading;
@@ -15,6 +16,8 @@ pub use building::build;
 pub use converting::times;
 pub use converting::to_normal;
 pub use converting::to_polynomial;
+pub use dividing::inverse;
+pub use dividing::quotient;
 pub use layout::RECORD;
 pub use lists::LIST_LIMIT;
 pub use lists::list_to_normal;

@@ -1,9 +1,10 @@
-// What a sheet holds, as it stands: its polynomial, one record's rows, one column's rows.
+// What a sheet holds, as it stands: its polynomial, one record's rows, one column's rows, and the byte sums of its table.
 ghost use mathlib.Core.Path.{_≡_};
 ghost use Prim.Native.Nat.{_+_, _*_, _≤_};
-ghost use lib.ListN.{length};
+ghost use lib.ListN.{length, replicate};
+ghost use Rattle.rows.specs.ByteSums.{bytes, byteSums};
 ghost use Rattle.normal.specs.Normal.{padded};
-ghost use Rattle.sheet.specs.Record.{recordSize, wordSize, polynomialIn, conjugateIn, inverseIn, tableIn, rowsIn};
+ghost use Rattle.sheet.specs.Record.{recordSize, wordSize, polynomialIn, conjugateIn, inverseIn, tableIn, rowsIn, tableRowsIn};
 ghost use Rattle.sheet.specs.Orders.{Shaped};
 use super::layout::CONJUGATE_AT;
 use super::layout::INVERSE_AT;
@@ -14,6 +15,8 @@ use super::layout::TAIL_AT;
 use super::layout::WORD;
 use super::layout::number_at;
 use gf2::LIMIT;
+use rows::BYTE_SUMS;
+use rows::degree_sums;
 
 // Row i of each of the three matrices.
 pub struct Row {
@@ -57,4 +60,13 @@ pub fn load_rows(sheet: &[u8], at: usize) -> [u64; LIMIT]
         i += 1;
     }
     rows
+}
+
+// The byte sums of the table's rows, in an array of zeros.
+pub fn load_sums(sheet: &[u8], sums: &mut [u64; BYTE_SUMS])
+    requires { ⌜ Shaped (now sheet) × (now sums ≡ replicate (256 * bytes) 0) ⌝ }
+    ensures { λ r. ⌜ now (sums .exit) ≡ byteSums bytes (padded (tableRowsIn (now (sheet .entry)))) ⌝ }
+{
+    let rows = load_rows(sheet, TABLE_AT);
+    degree_sums(rows, sheet.len() / RECORD, sums);
 }
