@@ -1,9 +1,9 @@
-// The twelve calls. Each takes any numbers and lent memory, and its promise gives every number that it hands out and the final state of
+// The fourteen calls. Each takes any numbers and lent memory, and its promise gives every number that it hands out and the final state of
 // what it may write.
 ghost use mathlib.Core.Path.{_≡_};
 ghost use lib.ListN.{length};
 ghost use Rattle.field.specs.Answers.{checkReport, multiplyReport, squareReport, traceReport};
-ghost use Rattle.sheet.specs.Answers.{buildReport, builtBuffer, readReport, polynomialReport, normalReport, timesReport, polynomialListReport, polynomialList, normalListReport, normalList};
+ghost use Rattle.sheet.specs.Answers.{buildReport, builtBuffer, readReport, polynomialReport, normalReport, timesReport, inverseReport, quotientReport, polynomialListReport, polynomialList, normalListReport, normalList};
 ghost use Rattle.search.specs.Answers.{searchAnswer, searchReport};
 ghost use Rattle.capi.specs.Answers.{deskValue, deskIssued, deskFound, foundFlag};
 use super::answer::DeskFound;
@@ -103,6 +103,22 @@ pub extern "C" fn desk_times(sheet: &[u8], a: u64, b: u64) -> DeskValue
     ensures { λ r. ⌜ r ≡ deskValue (timesReport (now (sheet .entry)) a b) ⌝ }
 {
     value_out(sheet::times(sheet, a, b))
+}
+
+// The inverse of normal coordinates a.
+#[no_mangle]
+pub extern "C" fn desk_inverse(sheet: &[u8], a: u64) -> DeskValue
+    ensures { λ r. ⌜ r ≡ deskValue (inverseReport (now (sheet .entry)) a) ⌝ }
+{
+    value_out(sheet::inverse(sheet, a))
+}
+
+// The quotient of normal coordinates.
+#[no_mangle]
+pub extern "C" fn desk_quotient(sheet: &[u8], dividend: u64, divisor: u64) -> DeskValue
+    ensures { λ r. ⌜ r ≡ deskValue (quotientReport (now (sheet .entry)) dividend divisor) ⌝ }
+{
+    value_out(sheet::quotient(sheet, dividend, divisor))
 }
 
 // The normal class leader from first to last, both included, whose table has the fewest ones, the smallest on a tie, and the count of all
