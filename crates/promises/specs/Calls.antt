@@ -9,7 +9,7 @@
 --     .exit             the arguments once it has returned: what a lent slice holds then is `now` of it
 --   Determined c      any two results that the promise permits for the same arguments are equal
 --   DeterminedWith c left   and any two final states of what it lends, which `left` picks
---   check, multiply, ..   the thirteen calls of the desk, the fourteen exports, and the two that read a word
+--   check, multiply, ..   the fifteen calls of the desk, the sixteen exports, and the two that read a word
 --
 -- A theorem on every run of a call is one on what the call does. Definitions alone.
 -- Assumes nothing.
@@ -37,6 +37,10 @@ use Rattle.sheet.proofs.to_normal.Reads as to-normal-reads
 use Rattle.sheet.proofs.to_normal.Kinds as to-normal-kinds
 use Rattle.sheet.proofs.times.Reads as times-reads
 use Rattle.sheet.proofs.times.Kinds as times-kinds
+use Rattle.sheet.proofs.inverse.Reads as inverse-reads
+use Rattle.sheet.proofs.inverse.Kinds as inverse-kinds
+use Rattle.sheet.proofs.quotient.Reads as quotient-reads
+use Rattle.sheet.proofs.quotient.Kinds as quotient-kinds
 use Rattle.sheet.proofs.list_to_polynomial.Reads as list-to-polynomial-reads
 use Rattle.sheet.proofs.list_to_polynomial.Kinds as list-to-polynomial-kinds
 use Rattle.sheet.proofs.list_to_normal.Reads as list-to-normal-reads
@@ -63,6 +67,10 @@ use Rattle.capi.proofs.desk_to_normal.Reads as desk-to-normal-reads
 use Rattle.capi.proofs.desk_to_normal.Kinds as desk-to-normal-kinds
 use Rattle.capi.proofs.desk_times.Reads as desk-times-reads
 use Rattle.capi.proofs.desk_times.Kinds as desk-times-kinds
+use Rattle.capi.proofs.desk_inverse.Reads as desk-inverse-reads
+use Rattle.capi.proofs.desk_inverse.Kinds as desk-inverse-kinds
+use Rattle.capi.proofs.desk_quotient.Reads as desk-quotient-reads
+use Rattle.capi.proofs.desk_quotient.Kinds as desk-quotient-kinds
 use Rattle.capi.proofs.desk_list_to_polynomial.Reads as desk-list-to-polynomial-reads
 use Rattle.capi.proofs.desk_list_to_polynomial.Kinds as desk-list-to-polynomial-kinds
 use Rattle.capi.proofs.desk_list_to_normal.Reads as desk-list-to-normal-reads
@@ -140,6 +148,12 @@ to-normal = record { lifetimes = 1; params = to-normal-kinds.ps; returns = to-no
 abbrev pub times : Call
 times = record { lifetimes = 1; params = times-kinds.ps; returns = times-kinds.r; asks = times-reads.Asked; promise = times-reads.Post; asks-nothing = λ κs a. tt }
 
+abbrev pub inverse : Call
+inverse = record { lifetimes = 1; params = inverse-kinds.ps; returns = inverse-kinds.r; asks = inverse-reads.Asked; promise = inverse-reads.Post; asks-nothing = λ κs a. tt }
+
+abbrev pub quotient : Call
+quotient = record { lifetimes = 1; params = quotient-kinds.ps; returns = quotient-kinds.r; asks = quotient-reads.Asked; promise = quotient-reads.Post; asks-nothing = λ κs a. tt }
+
 abbrev pub list-to-polynomial : Call
 list-to-polynomial = record { lifetimes = 3; params = list-to-polynomial-kinds.ps; returns = list-to-polynomial-kinds.r; asks = list-to-polynomial-reads.Asked; promise = list-to-polynomial-reads.Post; asks-nothing = λ κs a. tt }
 
@@ -184,6 +198,12 @@ desk-to-normal = record { lifetimes = 1; params = desk-to-normal-kinds.ps; retur
 
 abbrev pub desk-times : Call
 desk-times = record { lifetimes = 1; params = desk-times-kinds.ps; returns = desk-times-kinds.r; asks = desk-times-reads.Asked; promise = desk-times-reads.Post; asks-nothing = λ κs a. tt }
+
+abbrev pub desk-inverse : Call
+desk-inverse = record { lifetimes = 1; params = desk-inverse-kinds.ps; returns = desk-inverse-kinds.r; asks = desk-inverse-reads.Asked; promise = desk-inverse-reads.Post; asks-nothing = λ κs a. tt }
+
+abbrev pub desk-quotient : Call
+desk-quotient = record { lifetimes = 1; params = desk-quotient-kinds.ps; returns = desk-quotient-kinds.r; asks = desk-quotient-reads.Asked; promise = desk-quotient-reads.Post; asks-nothing = λ κs a. tt }
 
 abbrev pub desk-list-to-polynomial : Call
 desk-list-to-polynomial = record { lifetimes = 3; params = desk-list-to-polynomial-kinds.ps; returns = desk-list-to-polynomial-kinds.r; asks = desk-list-to-polynomial-reads.Asked; promise = desk-list-to-polynomial-reads.Post; asks-nothing = λ κs a. tt }

@@ -1,21 +1,21 @@
 -- Demand 1 (document 01, "Strength of each call"): the promise of a public call determines its result and the final state of all it was
--- lent. For each of the thirteen calls two theorems over the promise as the checker itself reads it, for all arguments:
+-- lent. For each of the fifteen calls two theorems over the promise as the checker itself reads it, for all arguments:
 --
 --   ..-is           a run returns the call's answer, as a function of its arguments, and leaves in lent memory what the same function says
 --   ..-determined   any two results, and any two final states of lent memory, that the promise permits are equal
 --
--- So whatever `Demand2` and `Demand3` say of an answer they say of the call. In order: check, multiply, square, trace; build, read;
--- to_polynomial, to_normal, times; list_to_polynomial, list_to_normal; search; listing. What is refused: `Refused`.
+-- So whatever `Demand2`, `Demand3` and `Division` say of an answer they say of the call. In order: check, multiply, square, trace; build, read;
+-- to_polynomial, to_normal, times, inverse, quotient; list_to_polynomial, list_to_normal; search; listing. What is refused: `Refused`.
 -- Assumes nothing.
 use mathlib.Core.Path.{_≡_, sym, _∙_}
 use mathlib.Core.List.{_++_}
 use lib.ListN.{length, drop}
 use denote.Ref.{now}
 use Rattle.field.specs.Answers.{checkAnswer, multiplyAnswer, squareAnswer, traceAnswer}
-use Rattle.sheet.specs.Answers.{buildAnswer, builtBuffer, readAnswer, polynomialAnswer, normalAnswer, timesAnswer, polynomialListAnswer, polynomialList, normalListAnswer, normalList}
+use Rattle.sheet.specs.Answers.{buildAnswer, builtBuffer, readAnswer, polynomialAnswer, normalAnswer, timesAnswer, inverseAnswer, quotientAnswer, polynomialListAnswer, polynomialList, normalListAnswer, normalList}
 use Rattle.search.specs.Answers.{searchAnswer}
 use Rattle.listing.specs.Text.{listingOf}
-use Rattle.promises.specs.Calls.{Run, Determined, DeterminedWith, check, multiply, square, trace, build, read, to-polynomial, to-normal, times, list-to-polynomial, list-to-normal, search, listing}
+use Rattle.promises.specs.Calls.{Run, Determined, DeterminedWith, check, multiply, square, trace, build, read, to-polynomial, to-normal, times, inverse, quotient, list-to-polynomial, list-to-normal, search, listing}
 
 -- ---- the field calls
 
@@ -78,6 +78,18 @@ times-is c = c .kept .0
 
 pub times-determined : Determined times
 times-determined κs a x y e e′ p q = p .0 ∙ sym (q .0)
+
+pub inverse-is : (c : Run inverse) → c .result ≡ inverseAnswer (now (c .args .0)) (c .args .1 .0)
+inverse-is c = c .kept .0
+
+pub inverse-determined : Determined inverse
+inverse-determined κs a x y e e′ p q = p .0 ∙ sym (q .0)
+
+pub quotient-is : (c : Run quotient) → c .result ≡ quotientAnswer (now (c .args .0)) (c .args .1 .0) (c .args .1 .1 .0)
+quotient-is c = c .kept .0
+
+pub quotient-determined : Determined quotient
+quotient-determined κs a x y e e′ p q = p .0 ∙ sym (q .0)
 
 -- ---- lists, with the lent list
 

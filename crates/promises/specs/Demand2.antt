@@ -119,7 +119,7 @@ module _ (f n a : ℕ) (sheet : List ℕ) (s : SheetOf f n a sheet) where
       let y : ℕ = toPolynomial sheet v in
       (y, polynomial-answered f n a sheet s v h, normal-answered f n a sheet s y (element-lt f n a sheet s v h) ∙ ap value.Done (back-there f n a sheet s v h))
 
-  multiplied : (x y : ℕ) → x < 2 ^ n → y < 2 ^ n → multiplyAnswer f x y ≡ value.Done (mulMod f n x y)
+  pub multiplied : (x y : ℕ) → x < 2 ^ n → y < 2 ^ n → multiplyAnswer f x y ≡ value.Done (mulMod f n x y)
   unfolding multiplyAnswer answerOf
   multiplied x y hx hy =
       let e : degree f ≡ n = s .based .has-degree in

@@ -1,14 +1,19 @@
--- The small numbers of document 01 ("Small numbers to hold it against"), of what the calls answer.
+-- The small numbers of document 01 ("Small numbers to hold it against"), of what the calls answer, and of division (document 02, §1).
 --
 --   Issued, Refused, Converted, Multiplied, Rejected   what a line says of the calls
 --   examples          the twelve lines marked P, in one table
 --   bytes, damaged    the sheet file's own line: a record in bytes, and the refusals of two sheets that lost a record
+--   inverses          all inverses on the sheets of 7 and 2, of 11 and 3, and of 19 and 8, whose tables `examples` has
+--   quotients         on these, every quotient times its divisor is the dividend, by conversion and the product modulo f
+--   factors-in-order  on tables that no builder writes: which factor stands first
 --
 -- Assumes nothing.
 use mathlib.Core.Path.{_≡_, refl}
+use mathlib.Core.Bool.{Bool, false, not, _&&_}
 use mathlib.Core.List.{List, [], _∷_, _++_}
-use Prim.Native.Nat.{ℕ, _*_}
+use Prim.Native.Nat.{ℕ, _+_, _*_, _^_}
 use lib.Count.{ones, onesIn}
+use lib.Dec.{ltb, eqb}
 use lib.ListN.{drop, replicate}
 use Rattle.gf2.specs.Poly.{_⊕_, digitsFrom, digits, product, degree, reduce, rem, mulMod, divides}
 use Rattle.gf2.specs.Bounded.{some, first}
@@ -22,7 +27,8 @@ use Rattle.rows.specs.Bits.{bitOf}
 use Rattle.rows.specs.Rows.{comb, independent}
 use Rattle.normal.specs.Normal.{conjugatesFrom, conjugates, normal, coordinates, listed, inverseRows, tableRows, complexity}
 use Rattle.normal.specs.Grades.{prime, gradeOf, gradeNumber}
-use Rattle.normal.specs.TableProduct.{total, productBit, tableProduct}
+use Rattle.normal.specs.TableProduct.{rotate, rotatedBy, total, productBit, tableProduct}
+use Rattle.normal.specs.Powers.{powerWithin, powerOf, inverseOf, quotientOf}
 use Rattle.sheet.specs.Record.{recordSize, conjugateRowsIn, inverseRowsIn, tableRowsIn, bytesOf, numberIn, recordBytes, recordsTo, sheetBytes, columnIn, rowsIn, recordAt}
 use Rattle.sheet.specs.Orders.{badLength, misplaced, oversized, recordRules, valueRules}
 use Rattle.sheet.specs.Answers.{Issue, issueOf, summaryOf, buildReport, builtBuffer, readReport, toPolynomial, polynomialReport, toNormal, normalReport, throughTable, timesReport}
@@ -99,3 +105,25 @@ pub damaged : (readReport (drop recordSize (sheetOf 7 2)) ≡ unissued 7 0)
     × (readReport (recordAt (sheetOf 11 3) 0 ++ recordAt (sheetOf 11 3) 2) ≡ unissued 8 0)
 unfolding readReport issueOf recordAt builtBuffer left firstOf badLength misplaced recordRules columnIn numberIn tooLarge bytesOf recordBytes recordsTo sheetBytes degreeOutside divided strays divides degree some first normal independent conjugates conjugatesFrom squared inverseRows tableRows listed coordinates comb mulMod rem reduce product digits digitsFrom _⊕_
 damaged = (refl, refl)
+
+-- ---- division
+
+pub inverses : (listed 3 (λ i. inverseOf 2 (2 ∷ 3 ∷ []) (i + 1)) ≡ 2 ∷ 1 ∷ 3 ∷ [])
+    × (listed 7 (λ i. inverseOf 3 (2 ∷ 5 ∷ 6 ∷ []) (i + 1)) ≡ 3 ∷ 6 ∷ 1 ∷ 5 ∷ 4 ∷ 2 ∷ 7 ∷ [])
+    × (listed 15 (λ i. inverseOf 4 (2 ∷ 8 ∷ 15 ∷ 4 ∷ []) (i + 1)) ≡ 4 ∷ 8 ∷ 13 ∷ 1 ∷ 10 ∷ 11 ∷ 12 ∷ 2 ∷ 14 ∷ 5 ∷ 6 ∷ 7 ∷ 3 ∷ 9 ∷ 15 ∷ [])
+unfolding listed inverseOf powerOf powerWithin rotate rotatedBy tableProduct productBit total bitOf
+inverses = (refl, refl, refl)
+
+-- some quotient, converted and multiplied by its divisor's element, is not the dividend's element
+abbrev astray : (f n : ℕ) (conjugates table : List ℕ) → Bool
+astray f n C T = some (2 ^ n) (λ b. some (2 ^ n) (λ v. ltb 0 v && not (eqb (mulMod f n (comb C (quotientOf n T b v)) (comb C v)) (comb C b))))
+
+pub quotients : (astray 7 2 (2 ∷ 3 ∷ []) (2 ∷ 3 ∷ []) ≡ false) × (astray 11 3 (3 ∷ 5 ∷ 7 ∷ []) (2 ∷ 5 ∷ 6 ∷ []) ≡ false)
+    × (astray 19 4 (8 ∷ 12 ∷ 15 ∷ 10 ∷ []) (2 ∷ 8 ∷ 15 ∷ 4 ∷ []) ≡ false)
+unfolding some quotientOf inverseOf powerOf powerWithin rotate rotatedBy tableProduct productBit total bitOf comb mulMod rem reduce product digits digitsFrom _⊕_
+quotients = (refl, refl, refl)
+
+-- the rotated factor before the other, and the dividend before the inverse: the other way round each of these would be 0
+pub factors-in-order : (inverseOf 3 (0 ∷ 0 ∷ 1 ∷ []) 1 ≡ 4) × (inverseOf 4 (0 ∷ 0 ∷ 0 ∷ 1 ∷ []) 3 ≡ 8) × (quotientOf 4 (0 ∷ 0 ∷ 0 ∷ 1 ∷ []) 3 3 ≡ 1)
+unfolding quotientOf inverseOf powerOf powerWithin rotate rotatedBy tableProduct productBit total bitOf
+factors-in-order = (refl, refl, refl)

@@ -5,11 +5,11 @@ use mathlib.Core.Path.{_≡_, sym, _∙_}
 use lib.ListN.{length}
 use denote.Ref.{now}
 use Rattle.field.specs.Answers.{checkReport, multiplyReport, squareReport, traceReport}
-use Rattle.sheet.specs.Answers.{buildReport, builtBuffer, readReport, polynomialReport, normalReport, timesReport, polynomialListReport, polynomialList, normalListReport, normalList}
+use Rattle.sheet.specs.Answers.{buildReport, builtBuffer, readReport, polynomialReport, normalReport, timesReport, inverseReport, quotientReport, polynomialListReport, polynomialList, normalListReport, normalList}
 use Rattle.search.specs.Answers.{searchAnswer, searchReport}
 use Rattle.capi.specs.Answers.{deskValue, deskIssued, deskFound, deskWord, foundFlag}
 use Rattle.words.specs.Notation.{numberOf, polynomialOf}
-use Rattle.promises.specs.Calls.{Run, Determined, DeterminedWith, desk-check, desk-multiply, desk-square, desk-trace, desk-build, desk-read, desk-to-polynomial, desk-to-normal, desk-times, desk-list-to-polynomial, desk-list-to-normal, desk-search, desk-number-of, desk-polynomial-of, number, polynomial}
+use Rattle.promises.specs.Calls.{Run, Determined, DeterminedWith, desk-check, desk-multiply, desk-square, desk-trace, desk-build, desk-read, desk-to-polynomial, desk-to-normal, desk-times, desk-inverse, desk-quotient, desk-list-to-polynomial, desk-list-to-normal, desk-search, desk-number-of, desk-polynomial-of, number, polynomial}
 
 -- ---- the field calls
 
@@ -69,6 +69,18 @@ desk-times-is c = c .kept
 
 pub desk-times-determined : Determined desk-times
 desk-times-determined κs a x y e e′ p q = p ∙ sym q
+
+pub desk-inverse-is : (c : Run desk-inverse) → c .result ≡ deskValue (inverseReport (now (c .args .0)) (c .args .1 .0))
+desk-inverse-is c = c .kept
+
+pub desk-inverse-determined : Determined desk-inverse
+desk-inverse-determined κs a x y e e′ p q = p ∙ sym q
+
+pub desk-quotient-is : (c : Run desk-quotient) → c .result ≡ deskValue (quotientReport (now (c .args .0)) (c .args .1 .0) (c .args .1 .1 .0))
+desk-quotient-is c = c .kept
+
+pub desk-quotient-determined : Determined desk-quotient
+desk-quotient-determined κs a x y e e′ p q = p ∙ sym q
 
 pub desk-list-to-polynomial-is : (c : Run desk-list-to-polynomial) → (c .result ≡ deskValue (polynomialListReport (now (c .args .0)) (now (c .args .1 .0)) (length (now (c .args .1 .1 .0)))))
     × (now (c .exit .1 .1 .0) ≡ polynomialList (now (c .args .0)) (now (c .args .1 .0)) (now (c .args .1 .1 .0)))

@@ -4,6 +4,7 @@ pub mod Calls
 pub mod Demand1
 pub mod Demand2
 pub mod Demand3
+pub mod Division
 pub mod Examples
 pub mod Exports
 pub mod Listed

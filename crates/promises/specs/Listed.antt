@@ -1,9 +1,9 @@
 -- The numbers that each call's order has, as document 01 lists them, and the places that its table has for them ("Refusal numbers",
--- "Orders."): every rule of the order has such a number and such a place.
+-- "Orders."; document 02, §1): every rule of the order has such a number and such a place.
 --
---   OnShape, OnValue, OnList, OnReading   the numbers and places of the calls on a sheet of m records
---   ..-listed, ..-positive                an order has these, and none of the numbers is 0
---   field-orders, ..-sequence             the numbers of an order, one after another, are those that document 01 lists
+--   OnShape, OnValue, OnDivision, OnList, OnReading   the numbers and places of the calls on a sheet of m records
+--   ..-listed, ..-positive                            an order has these, and none of the numbers is 0
+--   field-orders, ..-sequence                         the numbers of an order, one after another, are those that document 01 lists
 --
 -- Assumes nothing.
 use mathlib.Core.Path.{_≡_, refl, ap, _∙_}
@@ -15,7 +15,7 @@ use lib.ListN.{length, replicate}
 use Rattle.refusals.specs.Verdicts.{Rule}
 use Rattle.field.specs.Refusals.{elementRule, multiplyOrder, squareOrder, traceOrder, checkOrder}
 use Rattle.sheet.specs.Record.{recordCount, conjugateIn, polynomialIn}
-use Rattle.sheet.specs.Orders.{recordRules, differRules, valueRules, listRule, shapeOrder, basisOrder, rebuiltFrom, buildOrder, readOrder, valueOrder, listOrder}
+use Rattle.sheet.specs.Orders.{recordRules, differRules, valueRules, listRule, zeroRule, shapeOrder, basisOrder, rebuiltFrom, buildOrder, readOrder, valueOrder, listOrder}
 use Rattle.search.specs.Answers.{searchOrder}
 use Rattle.refusals.specs.Told.{AtZero, Below, Every, numbersOf}
 use Rattle.refusals.specs.Telling.{every-append, every-also, listed-at-zero, at-zero-positive, below-positive}
@@ -49,6 +49,10 @@ OnShape m k p = AtZero (7 ∷ []) k p ⊎ Below (8 ∷ 9 ∷ []) m k p
 -- "then 4"
 abbrev pub OnValue : (m : ℕ) → ℕ → ℕ → Type 0
 OnValue m k p = AtZero (4 ∷ []) k p ⊎ OnShape m k p
+
+-- "13, .. after 4"
+abbrev pub OnDivision : (m : ℕ) → ℕ → ℕ → Type 0
+OnDivision m k p = AtZero (13 ∷ []) k p ⊎ OnValue m k p
 
 -- "with 11 before 4", which has the index in a list of l values as its place
 abbrev pub OnList : (m l : ℕ) → ℕ → ℕ → Type 0
@@ -86,6 +90,13 @@ value-listed sheet values =
     every-append (OnValue m) (shapeOrder sheet) (elementRule m values ∷ [])
     (every-also (OnShape m) (OnValue m) (λ k p h. inr h) (shapeOrder sheet) (shape-listed sheet)) (inl (inl refl, refl), tt)
 
+-- the order of the inverse, where values is the number to invert, and of the quotient, where they are dividend and divisor
+pub division-listed : (sheet values : List ℕ) (divisor : ℕ) → Every (OnDivision (recordCount sheet)) (valueOrder sheet values ++ (zeroRule divisor ∷ []))
+division-listed sheet values divisor =
+    let m : ℕ = recordCount sheet in
+    every-append (OnDivision m) (valueOrder sheet values) (zeroRule divisor ∷ [])
+    (every-also (OnValue m) (OnDivision m) (λ k p h. inr h) (valueOrder sheet values) (value-listed sheet values)) (inl (inl refl, refl), tt)
+
 pub list-listed : (sheet from : List ℕ) (into : ℕ) → Every (OnList (recordCount sheet) (length from)) (listOrder sheet from into)
 list-listed sheet from into =
     let m : ℕ = recordCount sheet in
@@ -114,6 +125,10 @@ shape-positive m k p (inr h) = below-positive (8 ∷ 9 ∷ []) m refl k p h
 pub value-positive : (m k p : ℕ) → OnValue m k p → 0 < k
 value-positive m k p (inl h) = at-zero-positive (4 ∷ []) refl k p h
 value-positive m k p (inr h) = shape-positive m k p h
+
+pub division-positive : (m k p : ℕ) → OnDivision m k p → 0 < k
+division-positive m k p (inl h) = at-zero-positive (13 ∷ []) refl k p h
+division-positive m k p (inr h) = value-positive m k p h
 
 pub list-positive : (m l k p : ℕ) → OnList m l k p → 0 < k
 list-positive m l k p (inl h) = at-zero-positive (11 ∷ []) refl k p h
@@ -155,6 +170,12 @@ shape-then sheet rest =
 -- "7, then records .., then 4"
 pub value-sequence : (sheet values : List ℕ) → numbersOf (valueOrder sheet values) ≡ 7 ∷ (eightNine (recordCount sheet) ++ (4 ∷ []))
 value-sequence sheet values = shape-then sheet (elementRule (recordCount sheet) values ∷ [])
+
+-- "13, .. after 4"
+pub division-sequence : (sheet values : List ℕ) (divisor : ℕ)
+    → numbersOf (valueOrder sheet values ++ (zeroRule divisor ∷ [])) ≡ (7 ∷ (eightNine (recordCount sheet) ++ (4 ∷ []))) ++ (13 ∷ [])
+division-sequence sheet values divisor =
+    numbers-append (valueOrder sheet values) (zeroRule divisor ∷ []) ∙ ap (λ (l : List ℕ). l ++ (13 ∷ [])) (value-sequence sheet values)
 
 fours : (n i : ℕ) (values : List ℕ) → numbersOf (valueRules n i values) ≡ replicate (length values) 4
 unfolding valueRules

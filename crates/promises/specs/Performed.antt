@@ -93,7 +93,7 @@ ProductOf sheet u v r = (c : Run times) → now (c .args .0) ≡ sheet → c .ar
 abbrev pub Multiplied : (f x y : ℕ) (r : Value) → Type 0
 Multiplied f x y r = (c : Run multiply) → c .args .0 ≡ f → c .args .1 .0 ≡ x → c .args .1 .1 .0 ≡ y → c .result ≡ r
 
-elements : (sheet : List ℕ) (v : ℕ) (r : Value) → polynomialAnswer sheet v ≡ r → ElementOf sheet v r
+pub elements : (sheet : List ℕ) (v : ℕ) (r : Value) → polynomialAnswer sheet v ≡ r → ElementOf sheet v r
 elements sheet v r e d es ev = to-polynomial-is d ∙ ap₂ (λ (s : List ℕ) (x : ℕ). polynomialAnswer s x) es ev ∙ e
 
 coordinates : (sheet : List ℕ) (y : ℕ) (r : Value) → normalAnswer sheet y ≡ r → CoordinatesOf sheet y r

@@ -21,8 +21,8 @@ use Rattle.refusals.specs.declared.answer.Checked.the-variants as checked
 use Rattle.field.specs.Answers.{checkAnswer, multiplyAnswer, squareAnswer, traceAnswer}
 use Rattle.field.specs.Refusals.{multiplyOrder, squareOrder, traceOrder, checkOrder}
 use Rattle.sheet.specs.Record.{recordCount}
-use Rattle.sheet.specs.Orders.{buildOrder, readOrder, polynomialOrder, normalOrder, timesOrder, polynomialListOrder, normalListOrder}
-use Rattle.sheet.specs.Answers.{issueOf, issuedOf, issuedReport, buildAnswer, builtBuffer, readAnswer, polynomialAnswer, normalAnswer, timesAnswer, polynomialListAnswer, polynomialList, normalListAnswer, normalList}
+use Rattle.sheet.specs.Orders.{buildOrder, readOrder, polynomialOrder, normalOrder, timesOrder, inverseOrder, quotientOrder, polynomialListOrder, normalListOrder}
+use Rattle.sheet.specs.Answers.{issueOf, issuedOf, issuedReport, buildAnswer, builtBuffer, readAnswer, polynomialAnswer, normalAnswer, timesAnswer, inverseAnswer, quotientAnswer, polynomialListAnswer, polynomialList, normalListAnswer, normalList}
 use Rattle.sheet.specs.Answered.{issued-report}
 use Rattle.sheet.specs.declared.answer.Summary.{Summary}
 use Rattle.sheet.specs.declared.answer.Issued.{Issued}
@@ -34,8 +34,8 @@ use Rattle.search.specs.declared.answer.Search.{Search}
 use Rattle.search.specs.declared.answer.Search.the-variants as searched
 use Rattle.promises.specs.Calls as calls
 use Rattle.promises.specs.Calls.{Run}
-use Rattle.promises.specs.Demand1.{check-is, multiply-is, square-is, trace-is, build-is, read-is, to-polynomial-is, to-normal-is, times-is, list-to-polynomial-is, list-to-normal-is, search-is}
-use Rattle.promises.specs.Listed.{OnValue, OnList, OnReading, multiply-listed, square-listed, trace-listed, check-listed, build-listed, search-listed, value-listed, value-positive, list-listed, list-positive, read-listed, read-positive}
+use Rattle.promises.specs.Demand1.{check-is, multiply-is, square-is, trace-is, build-is, read-is, to-polynomial-is, to-normal-is, times-is, inverse-is, quotient-is, list-to-polynomial-is, list-to-normal-is, search-is}
+use Rattle.promises.specs.Listed.{OnValue, OnDivision, OnList, OnReading, multiply-listed, square-listed, trace-listed, check-listed, build-listed, search-listed, value-listed, value-positive, division-listed, division-positive, list-listed, list-positive, read-listed, read-positive}
 use Rattle.refusals.specs.Told.{AtZero, Every, Told, ValueTold, CheckedTold, numberOf, placeOf}
 use Rattle.refusals.specs.Telling.{nonzero, placed-zero, at-zero-positive, told, value-told, checked-told}
 
@@ -143,6 +143,16 @@ to-normal-told c = rw (to-normal-is c) (value-told _ _ (value-listed (now (c .ar
 pub times-told : (c : Run calls.times) → ValueTold (timesOrder (now (c .args .0)) (c .args .1 .0) (c .args .1 .1 .0)) (OnValue (recordCount (now (c .args .0)))) (c .result)
 unfolding timesAnswer
 times-told c = rw (times-is c) (value-told _ _ (value-listed (now (c .args .0)) (c .args .1 .0 ∷ c .args .1 .1 .0 ∷ [])) (value-positive (recordCount (now (c .args .0)))) _)
+
+pub inverse-told : (c : Run calls.inverse) → ValueTold (inverseOrder (now (c .args .0)) (c .args .1 .0)) (OnDivision (recordCount (now (c .args .0)))) (c .result)
+unfolding inverseAnswer
+inverse-told c = rw (inverse-is c) (value-told _ _ (division-listed (now (c .args .0)) (c .args .1 .0 ∷ []) (c .args .1 .0)) (division-positive (recordCount (now (c .args .0)))) _)
+
+pub quotient-told : (c : Run calls.quotient) → ValueTold (quotientOrder (now (c .args .0)) (c .args .1 .0) (c .args .1 .1 .0)) (OnDivision (recordCount (now (c .args .0)))) (c .result)
+unfolding quotientAnswer
+quotient-told c =
+    rw (quotient-is c)
+    (value-told _ _ (division-listed (now (c .args .0)) (c .args .1 .0 ∷ c .args .1 .1 .0 ∷ []) (c .args .1 .1 .0)) (division-positive (recordCount (now (c .args .0)))) _)
 
 -- ---- lists
 

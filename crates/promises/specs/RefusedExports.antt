@@ -17,8 +17,8 @@ use Rattle.refusals.specs.declared.answer.Value.the-variants as value
 use Rattle.field.specs.Answers.{checkAnswer, checkReport, multiplyAnswer, multiplyReport, squareAnswer, squareReport, traceAnswer, traceReport}
 use Rattle.field.specs.Refusals.{multiplyOrder, squareOrder, traceOrder, checkOrder}
 use Rattle.sheet.specs.Record.{recordCount}
-use Rattle.sheet.specs.Orders.{buildOrder, readOrder, polynomialOrder, normalOrder, timesOrder, polynomialListOrder, normalListOrder}
-use Rattle.sheet.specs.Answers.{issueOf, buildAnswer, buildReport, builtBuffer, readAnswer, readReport, polynomialAnswer, polynomialReport, normalAnswer, normalReport, timesAnswer, timesReport, polynomialListAnswer, polynomialListReport, polynomialList, normalListAnswer, normalListReport, normalList}
+use Rattle.sheet.specs.Orders.{buildOrder, readOrder, polynomialOrder, normalOrder, timesOrder, inverseOrder, quotientOrder, polynomialListOrder, normalListOrder}
+use Rattle.sheet.specs.Answers.{issueOf, buildAnswer, buildReport, builtBuffer, readAnswer, readReport, polynomialAnswer, polynomialReport, normalAnswer, normalReport, timesAnswer, timesReport, inverseAnswer, inverseReport, quotientAnswer, quotientReport, polynomialListAnswer, polynomialListReport, polynomialList, normalListAnswer, normalListReport, normalList}
 use Rattle.sheet.specs.declared.answer.Summary.{Summary}
 use Rattle.sheet.specs.declared.answer.Issued.{Issued}
 use Rattle.sheet.specs.declared.answer.Issued.the-variants as issued
@@ -33,8 +33,8 @@ use Rattle.capi.specs.declared.answer.DeskIssued.{DeskIssued}
 use Rattle.capi.specs.declared.answer.DeskFound.{DeskFound}
 use Rattle.promises.specs.Calls as calls
 use Rattle.promises.specs.Calls.{Run}
-use Rattle.promises.specs.Exports.{desk-check-is, desk-multiply-is, desk-square-is, desk-trace-is, desk-build-is, desk-read-is, desk-to-polynomial-is, desk-to-normal-is, desk-times-is, desk-list-to-polynomial-is, desk-list-to-normal-is, desk-search-is}
-use Rattle.promises.specs.Listed.{OnValue, OnList, OnReading, multiply-listed, square-listed, trace-listed, check-listed, build-listed, search-listed, value-listed, value-positive, list-listed, list-positive, read-listed, read-positive}
+use Rattle.promises.specs.Exports.{desk-check-is, desk-multiply-is, desk-square-is, desk-trace-is, desk-build-is, desk-read-is, desk-to-polynomial-is, desk-to-normal-is, desk-times-is, desk-inverse-is, desk-quotient-is, desk-list-to-polynomial-is, desk-list-to-normal-is, desk-search-is}
+use Rattle.promises.specs.Listed.{OnValue, OnDivision, OnList, OnReading, multiply-listed, square-listed, trace-listed, check-listed, build-listed, search-listed, value-listed, value-positive, division-listed, division-positive, list-listed, list-positive, read-listed, read-positive}
 use Rattle.promises.specs.Refused.{issue-told, done-searched, answered-number}
 use Rattle.refusals.specs.Told.{AtZero, Every, Told, numberOf}
 use Rattle.refusals.specs.Telling.{nonzero, placed-zero, at-zero-positive, told, report-told, done-value, done-checked}
@@ -121,6 +121,18 @@ unfolding timesAnswer timesReport
 desk-times-told c =
     rw (desk-times-is c)
     (report-told _ _ (value-listed (now (c .args .0)) (c .args .1 .0 ∷ c .args .1 .1 .0 ∷ [])) (value-positive (recordCount (now (c .args .0)))) _ (done-value (firstOf (timesOrder (now (c .args .0)) (c .args .1 .0) (c .args .1 .1 .0))) _) _)
+
+pub desk-inverse-told : (c : Run calls.desk-inverse) → DeskValueTold (inverseOrder (now (c .args .0)) (c .args .1 .0)) (OnDivision (recordCount (now (c .args .0)))) (Valued (inverseAnswer (now (c .args .0)) (c .args .1 .0))) (c .result)
+unfolding inverseAnswer inverseReport
+desk-inverse-told c =
+    rw (desk-inverse-is c)
+    (report-told _ _ (division-listed (now (c .args .0)) (c .args .1 .0 ∷ []) (c .args .1 .0)) (division-positive (recordCount (now (c .args .0)))) _ (done-value (firstOf (inverseOrder (now (c .args .0)) (c .args .1 .0))) _) _)
+
+pub desk-quotient-told : (c : Run calls.desk-quotient) → DeskValueTold (quotientOrder (now (c .args .0)) (c .args .1 .0) (c .args .1 .1 .0)) (OnDivision (recordCount (now (c .args .0)))) (Valued (quotientAnswer (now (c .args .0)) (c .args .1 .0) (c .args .1 .1 .0))) (c .result)
+unfolding quotientAnswer quotientReport
+desk-quotient-told c =
+    rw (desk-quotient-is c)
+    (report-told _ _ (division-listed (now (c .args .0)) (c .args .1 .0 ∷ c .args .1 .1 .0 ∷ []) (c .args .1 .1 .0)) (division-positive (recordCount (now (c .args .0)))) _ (done-value (firstOf (quotientOrder (now (c .args .0)) (c .args .1 .0) (c .args .1 .1 .0))) _) _)
 
 -- ---- lists
 
