@@ -1,10 +1,11 @@
 # Turns the text of the module from x86-64 to Arm: module.awk TARGET MODULE, an Arm module for its two `target` lines, and the text.
 #
-# An answer of the desk has three numbers or more and goes through memory. On x86-64 its address is the first argument, and comes
-# back as the result; on Arm it has a register of its own, and nothing comes back. A parameter marked `sret` gets that register. Its
-# type says how much memory is there at least, so it is that of the shortest answer.
+# An answer of three numbers or more goes through memory. On x86-64 its address is the first argument, and comes back as the result; on
+# Arm it has a register of its own, and nothing comes back. A parameter marked `sret` gets that register. Its type says how much memory
+# is there at least, so it is that of the shortest answer. The two numbers that say what a word means come back in two registers on both,
+# and so stay as they are.
 #
-# Only exported functions of this form are turned. Another could need more, so it is refused: exit status 1.
+# Exported functions of these forms alone are taken. Another could need more, so it is refused: exit status 1.
 
 function refuse(why) {
     print "line " FNR " of the module " why ": " $0 >"/dev/stderr"
@@ -24,6 +25,11 @@ $1 == "target" {
 
 /^attributes / {
     gsub(/ "(target-cpu|target-features|tune-cpu)"="[^"]*"/, "")
+}
+
+/^define [{] i64, i64 [}] @desk_[a-z_]+\((ptr|i64) noundef %a0(, (ptr|i64) noundef %a[0-9]+)*\) #[0-9]+ [{]$/ {
+    print
+    next
 }
 
 /^define / && !/^define internal / {
