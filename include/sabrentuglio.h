@@ -40,13 +40,14 @@
  *    10      a record differs from the one rebuilt                     the first such record
  *    11      the lengths of the two lists differ, or exceed 4,096      0
  *    12      the first of the range is greater than the last           0
+ *    13      the divisor, or the number to invert, is zero             0
  *
  * In a call's order "the shape" stands for: 7; then, for each record from 0 upward, 8 before 9.
  *
  * A call that is done has place 0. A refusal has zeros in all but number and place, and all memory
  * that the call borrowed is unchanged.
  *
- * Besides the twelve calls, desk_number_of and desk_polynomial_of say what a typed word means, as
+ * Besides the fourteen calls, desk_number_of and desk_polynomial_of say what a typed word means, as
  * the command line reads it. They refuse nothing: a word is clear or unclear.
  *
  * What the caller must do:
@@ -220,6 +221,27 @@ desk_value desk_list_to_normal(const uint8_t *sheet, size_t length, const uint64
  * Refusals in order: the shape, 4.
  */
 desk_value desk_times(const uint8_t *sheet, size_t length, uint64_t a, uint64_t b);
+
+/*
+ * Returns the inverse of normal coordinates a, in normal coordinates, by the sheet's table rows. It
+ * is a^(2^n - 2). Rotating by one place moves bit i to bit i+1, and bit n-1 to bit 0. The power for
+ * k, whose exponent is 2^k - 1, is a if k = 1. If k = 2h it is the power for h, rotated h places,
+ * times that power. If k is odd and above 1 it is the power for k-1, rotated once, times a. The
+ * inverse is the power for n-1, rotated once. The call uses the rows as they stand and does not
+ * rebuild them. On the sheets that desk_read accepts, a times its inverse is the number with all n
+ * bits set, which is element 1. Writes nothing.
+ * Refusals in order: the shape, 4, 13.
+ */
+desk_value desk_inverse(const uint8_t *sheet, size_t length, uint64_t a);
+
+/*
+ * Returns the quotient of normal coordinates, in normal coordinates: the dividend times the inverse
+ * of the divisor, in this order, as desk_times and desk_inverse return them. The call uses the rows
+ * as they stand and does not rebuild them. On the sheets that desk_read accepts, the quotient times
+ * the divisor is the dividend. Zero divided by any other number is zero. Writes nothing.
+ * Refusals in order: the shape, 4, 13.
+ */
+desk_value desk_quotient(const uint8_t *sheet, size_t length, uint64_t dividend, uint64_t divisor);
 
 /*
  * Returns the normal basis of least complexity among the class leaders from first to last, both
