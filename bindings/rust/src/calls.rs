@@ -1,4 +1,4 @@
-//! The twelve calls one to one, with results; buffers and lists are lent.
+//! The fourteen calls one to one, with results; buffers and lists are lent.
 //!
 //! Each names its refusals in the order in which they are tested.
 
@@ -182,6 +182,52 @@ pub fn list_to_normal(sheet: &[u8], from: &[u64], into: &mut [u64]) -> Result<()
 /// ```
 pub fn times(sheet: &[u8], a: u64, b: u64) -> Result<u64, Refusal> {
     raw::times(sheet, a, b).into()
+}
+
+/// The inverse of the normal coordinates a, in normal coordinates: a to the
+/// power 2^n - 2, by the table rows as they stand in the sheet.
+///
+/// Refuses 7, then 8 and 9 record by record, 4, 13.
+///
+/// ```
+/// use sabrentuglio::{build, inverse, times, Reason, RECORD_LENGTH};
+///
+/// let mut sheet = [0; 3 * RECORD_LENGTH];
+/// build(11, 3, &mut sheet)?;
+/// assert_eq!(inverse(&sheet, 5)?, 4);
+/// // The coordinates of the element 1 have all bits set.
+/// assert_eq!(times(&sheet, 5, 4)?, 7);
+///
+/// let refusal = inverse(&sheet, 0).unwrap_err();
+/// assert_eq!(refusal.reason(), Some(Reason::DivisionByZero));
+/// # Ok::<(), sabrentuglio::Refusal>(())
+/// ```
+pub fn inverse(sheet: &[u8], a: u64) -> Result<u64, Refusal> {
+    raw::inverse(sheet, a).into()
+}
+
+/// The quotient of normal coordinates, in normal coordinates: the dividend
+/// times the [`inverse`] of the divisor, in this order, by the table rows as
+/// they stand in the sheet.
+///
+/// Refuses 7, then 8 and 9 record by record, 4, 13; zero divided by any other
+/// number is zero.
+///
+/// ```
+/// use sabrentuglio::{build, quotient, times, Reason, RECORD_LENGTH};
+///
+/// let mut sheet = [0; 3 * RECORD_LENGTH];
+/// build(11, 3, &mut sheet)?;
+/// assert_eq!(quotient(&sheet, 5, 2)?, 1);
+/// assert_eq!(times(&sheet, 1, 2)?, 5);
+/// assert_eq!(quotient(&sheet, 0, 2)?, 0);
+///
+/// let refusal = quotient(&sheet, 5, 0).unwrap_err();
+/// assert_eq!(refusal.reason(), Some(Reason::DivisionByZero));
+/// # Ok::<(), sabrentuglio::Refusal>(())
+/// ```
+pub fn quotient(sheet: &[u8], dividend: u64, divisor: u64) -> Result<u64, Refusal> {
+    raw::quotient(sheet, dividend, divisor).into()
 }
 
 /// Searches the elements from first to last, both included, for the normal

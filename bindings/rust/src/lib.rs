@@ -7,19 +7,21 @@
 //! other.
 //!
 //! The work is done by the desk's archive, whose code is proved to meet the
-//! project's build description, document 01; this crate only hands calls over.
+//! project's build description, document 01, and the requests of document 02
+//! that are built; this crate only hands calls over.
 //! [`Sheet`] owns a sheet that the desk built or accepted. The functions are
-//! the twelve calls one to one, over slices that you lend: [`check`],
+//! the fourteen calls one to one, over slices that you lend: [`check`],
 //! [`multiply`], [`square`], [`trace`], [`build`], [`read`], [`to_polynomial`],
 //! [`to_normal`], [`list_to_polynomial`], [`list_to_normal`], [`times`],
-//! [`search`]. [`raw`] has the same with the answers as flat numbers.
-//! [`Polynomial`] parses what a designer types, as the command line does.
+//! [`inverse`], [`quotient`], [`search`]. [`raw`] has the same with the answers
+//! as flat numbers. [`Polynomial`] parses what a designer types, as the command
+//! line does.
 //!
 //! Every number is a legal argument. What the desk does not do it refuses, with
 //! a [`Refusal`], and then every buffer and list stays as it came.
 //!
-//! Refusals and grades carry document 01's numbers. [`Reason`] and [`Grade`] have
-//! the names of those that this version knows.
+//! Refusals and grades carry the documents' numbers. [`Reason`] and [`Grade`]
+//! have the names of those that this version knows.
 //!
 //! ```
 //! use sabrentuglio::{multiply, Reason, Sheet};
@@ -28,6 +30,7 @@
 //! let (a, b) = (sheet.to_normal(6)?, sheet.to_normal(4)?);
 //! let product = sheet.to_polynomial(sheet.times(a, b)?)?;
 //! assert_eq!(product, multiply(11, 6, 4)?);
+//! assert_eq!(sheet.quotient(sheet.times(a, b)?, b)?, a);
 //!
 //! let refusal = Sheet::build(11, 2).unwrap_err();
 //! assert_eq!(refusal.reason(), Some(Reason::NotNormal));
@@ -48,8 +51,8 @@ mod words;
 
 pub use answer::{Best, Grade, Summary};
 pub use calls::{
-    build, check, list_to_normal, list_to_polynomial, multiply, read, search, square, times,
-    to_normal, to_polynomial, trace,
+    build, check, inverse, list_to_normal, list_to_polynomial, multiply, quotient, read, search,
+    square, times, to_normal, to_polynomial, trace,
 };
 pub use refusal::{Reason, Refusal, UnknownNumber};
 pub use rows::{Row, Rows};

@@ -98,6 +98,8 @@ extern "C" {
         into_count: usize,
     ) -> Value;
     fn desk_times(sheet: *const u8, length: usize, a: u64, b: u64) -> Value;
+    fn desk_inverse(sheet: *const u8, length: usize, a: u64) -> Value;
+    fn desk_quotient(sheet: *const u8, length: usize, dividend: u64, divisor: u64) -> Value;
     fn desk_search(f: u64, first: u64, last: u64) -> Found;
     fn desk_number_of(word: *const u8, length: usize) -> Word;
     fn desk_polynomial_of(word: *const u8, length: usize) -> Word;
@@ -189,6 +191,18 @@ pub fn list_to_normal(sheet: &[u8], from: &[u64], into: &mut [u64]) -> Value {
 pub fn times(sheet: &[u8], a: u64, b: u64) -> Value {
     // SAFETY: as in `read`.
     unsafe { desk_times(sheet.as_ptr(), sheet.len(), a, b) }
+}
+
+/// `desk_inverse`: the inverse of normal coordinates.
+pub fn inverse(sheet: &[u8], a: u64) -> Value {
+    // SAFETY: as in `read`.
+    unsafe { desk_inverse(sheet.as_ptr(), sheet.len(), a) }
+}
+
+/// `desk_quotient`: the dividend times the inverse of the divisor.
+pub fn quotient(sheet: &[u8], dividend: u64, divisor: u64) -> Value {
+    // SAFETY: as in `read`.
+    unsafe { desk_quotient(sheet.as_ptr(), sheet.len(), dividend, divisor) }
 }
 
 /// `desk_search`: the best normal leader from first to last.

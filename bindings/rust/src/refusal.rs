@@ -1,10 +1,12 @@
 //! What the desk says where it does not do as asked: [`Refusal`], with a number
-//! of document 01's refusal table, and [`Reason`], the names of those numbers.
+//! of document 01's refusal table, to which document 02's division adds 13, and
+//! [`Reason`], the names of those numbers.
 
 use std::error::Error;
 use std::fmt;
 
-/// The conditions of document 01's refusal table, each with its number there.
+/// The conditions of the refusal table, each with its number there: 1 to 12 of
+/// document 01, and 13 of document 02's division.
 ///
 /// The table can get further numbers and leave some unused, so a number has a
 /// name only where [`Reason::try_from`] knows one.
@@ -46,6 +48,8 @@ pub enum Reason {
     ListLength = 11,
     /// 12: the first of the range is greater than the last.
     RangeOrder = 12,
+    /// 13: the divisor, or the number to invert, is zero.
+    DivisionByZero = 13,
 }
 
 impl Reason {
@@ -63,6 +67,7 @@ impl Reason {
         Reason::RecordDiffers,
         Reason::ListLength,
         Reason::RangeOrder,
+        Reason::DivisionByZero,
     ];
 
     /// The number in the table.
@@ -88,6 +93,7 @@ impl Reason {
             Reason::RecordDiffers => "the record differs from the one rebuilt",
             Reason::ListLength => "the list lengths differ or exceed 4,096",
             Reason::RangeOrder => "the first of the range is greater than the last",
+            Reason::DivisionByZero => "the divisor, or the number to invert, is zero",
         }
     }
 }
@@ -142,8 +148,8 @@ impl Error for UnknownNumber {}
 /// ```
 #[derive(Clone, Copy, Debug, PartialEq, Eq, Hash)]
 pub struct Refusal {
-    /// The number in document 01's table: the first condition of the call's
-    /// order that applied.
+    /// The number in the table: the first condition of the call's order that
+    /// applied.
     pub number: u64,
     /// The record or the list index at fault, where the table names one;
     /// else 0.
@@ -186,11 +192,11 @@ mod tests {
     #[test]
     fn numbers_are_those_of_the_table() {
         let numbers: Vec<u64> = Reason::ALL.iter().map(|reason| reason.number()).collect();
-        assert_eq!(numbers, [1, 2, 3, 4, 5, 6, 7, 8, 9, 10, 11, 12]);
+        assert_eq!(numbers, [1, 2, 3, 4, 5, 6, 7, 8, 9, 10, 11, 12, 13]);
         for reason in Reason::ALL {
             assert_eq!(Reason::try_from(u64::from(*reason)), Ok(*reason));
         }
-        for number in [0, 13, 24, u64::MAX] {
+        for number in [0, 14, 24, u64::MAX] {
             assert_eq!(Reason::try_from(number), Err(UnknownNumber(number)));
         }
     }

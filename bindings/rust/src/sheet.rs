@@ -9,8 +9,8 @@ use std::fmt;
 /// The sheet of one normal basis.
 ///
 /// It holds only bytes that [`build`](crate::build) writes, so converting and
-/// converting back returns the value, and multiplying through the sheet is
-/// multiplication modulo f.
+/// converting back returns the value, multiplying through the sheet is
+/// multiplication modulo f, and a quotient times its divisor is the dividend.
 ///
 /// ```
 /// use sabrentuglio::Sheet;
@@ -165,6 +165,30 @@ impl Sheet {
     /// ```
     pub fn times(&self, a: u64, b: u64) -> Result<u64, Refusal> {
         calls::times(&self.bytes, a, b)
+    }
+
+    /// The inverse of the normal coordinates a, in normal coordinates.
+    ///
+    /// Refuses 4, 13.
+    ///
+    /// ```
+    /// assert_eq!(sabrentuglio::Sheet::build(19, 8)?.inverse(3)?, 13);
+    /// # Ok::<(), sabrentuglio::Refusal>(())
+    /// ```
+    pub fn inverse(&self, a: u64) -> Result<u64, Refusal> {
+        calls::inverse(&self.bytes, a)
+    }
+
+    /// The dividend over the divisor, all in normal coordinates.
+    ///
+    /// Refuses 4, 13.
+    ///
+    /// ```
+    /// assert_eq!(sabrentuglio::Sheet::build(11, 3)?.quotient(5, 2)?, 1);
+    /// # Ok::<(), sabrentuglio::Refusal>(())
+    /// ```
+    pub fn quotient(&self, dividend: u64, divisor: u64) -> Result<u64, Refusal> {
+        calls::quotient(&self.bytes, dividend, divisor)
     }
 }
 
