@@ -126,7 +126,7 @@ pub fn product_of_coordinates(table: &[u64], a: u64, b: u64) -> u64 {
 }
 
 /// Bit k of the result is bit (k-i) mod n of an n-bit number.
-fn moved_up(row: u64, i: usize, n: usize) -> u64 {
+pub(crate) fn moved_up(row: u64, i: usize, n: usize) -> u64 {
     let below = (1 << n) - 1;
     (row << i & below) | row >> (n - i)
 }

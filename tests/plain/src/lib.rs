@@ -1,9 +1,11 @@
-//! Document 01 in plain Rust, written from its sentences alone, so that the
-//! desk's archive can be compared with something that shares no line with it.
+//! Document 01, and document 02's division, in plain Rust, written from their
+//! sentences alone, so that the desk's archive can be compared with something
+//! that shares no line with it.
 //!
 //! In order: [`answers`] has what the calls answer; [`polynomial`] the
 //! arithmetic; [`accepted`] the tests of f; [`basis`] the three matrices of a
-//! normal basis; [`field`], [`sheet`], [`lists`] and [`search`] the twelve calls.
+//! normal basis; [`field`], [`sheet`], [`division`], [`lists`] and [`search`] the
+//! fourteen calls.
 //!
 //! The limits are document 01's too and stand first. Nothing here is quick on
 //! purpose. Every 64-bit number is a legal argument of every call; on a refusal
@@ -25,6 +27,7 @@ pub const MAX_LIST: usize = 4096;
 pub mod accepted;
 pub mod answers;
 pub mod basis;
+pub mod division;
 pub mod field;
 pub mod lists;
 pub mod polynomial;
@@ -32,6 +35,7 @@ pub mod search;
 pub mod sheet;
 
 pub use answers::{Found, Issued, Refusal, Value};
+pub use division::{inverse, quotient};
 pub use field::{check, multiply, square, trace};
 pub use lists::{list_to_normal, list_to_polynomial};
 pub use search::search;

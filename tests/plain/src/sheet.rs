@@ -139,7 +139,7 @@ fn rebuilt(sheet: &[u8]) -> Result<Basis, Refusal> {
 }
 
 /// A sheet and operands: 7, 8 and 9, then 4.
-fn opened(sheet: &[u8], operands: &[u64]) -> Result<Rows, Refusal> {
+pub(crate) fn opened(sheet: &[u8], operands: &[u64]) -> Result<Rows, Refusal> {
     let rows = Rows::new(sheet)?;
     refuse_large(rows.degree, operands)?;
     Ok(rows)
