@@ -1,5 +1,5 @@
 //! Compares the desk's archive with `plain`, the same rules written a second
-//! time from document 01.
+//! time from documents 01 and 02.
 //!
 //! Every group asks both sides the same and stops at the first difference, with
 //! the call and its inputs. At the end a table says how often each refusal was
@@ -15,6 +15,8 @@ mod building;
 mod causes;
 #[path = "compare/damage.rs"]
 mod damage;
+#[path = "compare/dividing.rs"]
+mod dividing;
 #[path = "compare/fields.rs"]
 mod fields;
 #[path = "compare/lengths.rs"]
@@ -48,7 +50,7 @@ use std::time::Instant;
 /// The name of a group and what runs it.
 type Group = (&'static str, fn(&mut Pair, &mut Random, &Fields));
 
-const GROUPS: [Group; 8] = [
+const GROUPS: [Group; 9] = [
     ("polynomials", polynomials::run),
     ("building", building::run),
     ("reading", reading::run),
@@ -57,6 +59,7 @@ const GROUPS: [Group; 8] = [
     ("searching", searching::run),
     ("causes", causes::run),
     ("results", results::run),
+    ("dividing", dividing::run),
 ];
 
 /// The seed of a run that names none: the same run each time.

@@ -72,11 +72,13 @@ fn any_sheet(random: &mut Random, fields: &Fields) -> (Vec<u8>, u32) {
 fn on_sheets(pair: &mut Pair, random: &mut Random, fields: &Fields) {
     let (sheet, n) = any_sheet(random, fields);
     let (a, b) = (random.operand(n), random.operand(n));
-    match random.below(5) {
+    match random.below(7) {
         0 => pair.read(&sheet),
         1 => pair.to_polynomial(&sheet, a),
         2 => pair.to_normal(&sheet, a),
         3 => pair.times(&sheet, a, b),
+        4 => pair.inverse(&sheet, a),
+        5 => pair.quotient(&sheet, a, b),
         _ => {
             let count = random.index(5);
             let room = match random.once_in(2) {

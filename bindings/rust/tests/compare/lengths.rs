@@ -44,6 +44,8 @@ fn every_call(pair: &mut Pair, random: &mut Random, sheet: &[u8]) {
     pair.to_polynomial(sheet, random.element(2));
     pair.to_normal(sheet, random.operand(WIDEST));
     pair.times(sheet, random.operand(WIDEST), random.operand(WIDEST));
+    pair.inverse(sheet, random.element(2));
+    pair.quotient(sheet, random.operand(WIDEST), random.element(2));
     let count = random.index(3);
     let (from, into) = (random.elements(2, count), random.elements(WIDEST, count));
     pair.lists(sheet, &from, &into);

@@ -192,6 +192,23 @@ impl Pair {
         });
     }
 
+    pub fn inverse(&mut self, sheet: &[u8], a: u64) {
+        let desk = self.on_sheet(Call::Inverse, sheet, |s| raw::inverse(s, a));
+        let plain = plain::inverse(sheet, a);
+        self.settle_value(Call::Inverse, desk, plain, || {
+            format!("a {}, sheet {}", a, hex(sheet))
+        });
+    }
+
+    pub fn quotient(&mut self, sheet: &[u8], dividend: u64, divisor: u64) {
+        let call = Call::Quotient;
+        let desk = self.on_sheet(call, sheet, |s| raw::quotient(s, dividend, divisor));
+        let plain = plain::quotient(sheet, dividend, divisor);
+        self.settle_value(call, desk, plain, || {
+            format!("{} over {}, sheet {}", dividend, divisor, hex(sheet))
+        });
+    }
+
     /// Converts a list both ways into a list that comes with this content.
     pub fn lists(&mut self, sheet: &[u8], from: &[u64], into: &[u64]) {
         let ways: [(Call, RawList, PlainList); 2] = [

@@ -1,4 +1,4 @@
-//! Reading, converting and multiplying on sheets good and bad.
+//! Reading, converting, multiplying and dividing on sheets good and bad.
 
 use crate::damage::{
     damaged, enlarge, flip, flip_in, invented, put, rearranged, refound, renumber, COLUMNS,
@@ -34,6 +34,8 @@ fn ask(pair: &mut Pair, random: &mut Random, n: u32, sheet: &[u8]) {
     pair.to_polynomial(sheet, random.operand(n));
     pair.to_normal(sheet, random.operand(n));
     pair.times(sheet, random.operand(n), random.operand(n));
+    pair.inverse(sheet, random.operand(n));
+    pair.quotient(sheet, random.operand(n), random.operand(n));
 }
 
 /// Sheets that the builder wrote, with operands of every kind.

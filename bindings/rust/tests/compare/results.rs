@@ -7,7 +7,7 @@ use crate::damage::damaged;
 use crate::fields::{Field, Fields};
 use crate::pair::Pair;
 use crate::random::Random;
-use sabrentuglio::{raw, Refusal, Sheet, Summary, MAX_DEGREE, RECORD_LENGTH};
+use sabrentuglio::{raw, Reason, Refusal, Sheet, Summary, MAX_DEGREE, RECORD_LENGTH};
 use std::fmt::Debug;
 
 /// Runs the group.
@@ -100,12 +100,7 @@ fn sheets(pair: &mut Pair, random: &mut Random, field: &Field) {
         raw::to_normal(&sheet, a),
         ("to_normal", &[a]),
     );
-    pair.times(&sheet, a, b);
-    same_value(
-        sabrentuglio::times(&sheet, a, b),
-        raw::times(&sheet, a, b),
-        ("times", &[a, b]),
-    );
+    products(pair, &sheet, a, b);
     pair.read(&sheet);
     let flat = raw::read(&sheet);
     let at = (flat.number, flat.place);
@@ -115,6 +110,27 @@ fn sheets(pair: &mut Pair, random: &mut Random, field: &Field) {
     same(result, at, fits, ("read", &[]));
     let result = Sheet::read(&sheet[..]);
     same(result, at, |s| fits(&s.summary()), ("Sheet::read", &[]));
+}
+
+fn products(pair: &mut Pair, sheet: &[u8], a: u64, b: u64) {
+    pair.times(sheet, a, b);
+    same_value(
+        sabrentuglio::times(sheet, a, b),
+        raw::times(sheet, a, b),
+        ("times", &[a, b]),
+    );
+    pair.inverse(sheet, a);
+    same_value(
+        sabrentuglio::inverse(sheet, a),
+        raw::inverse(sheet, a),
+        ("inverse", &[a]),
+    );
+    pair.quotient(sheet, a, b);
+    same_value(
+        sabrentuglio::quotient(sheet, a, b),
+        raw::quotient(sheet, a, b),
+        ("quotient", &[a, b]),
+    );
 }
 
 /// Building and lists through lent memory say and leave the same.
@@ -161,7 +177,24 @@ fn owned(random: &mut Random, field: &Field) {
         let square = plain::square(basis.f, *element).value;
         let twice = sheet.times(coordinates, coordinates);
         assert_eq!(twice.and_then(|v| sheet.to_polynomial(v)), Ok(square));
+        divided(random, field.n, &sheet, coordinates);
     }
     let refusal = sheet.list_to_normal(&[0, 1 << field.n]).unwrap_err();
     assert_eq!((refusal.number, refusal.place), (4, 1));
+}
+
+/// On a built sheet the quotient times the divisor is the dividend, and the
+/// number with all bits set is 1.
+fn divided(random: &mut Random, n: u32, sheet: &Sheet, divisor: u64) {
+    let dividend = random.element(n);
+    let back = |value| sheet.times(value, divisor);
+    if divisor == 0 {
+        let refusal = sheet.quotient(dividend, divisor).unwrap_err();
+        assert_eq!(refusal.reason(), Some(Reason::DivisionByZero));
+        assert_eq!(sheet.inverse(divisor), Err(refusal));
+        return;
+    }
+    let (quotient, inverse) = (sheet.quotient(dividend, divisor), sheet.inverse(divisor));
+    assert_eq!(quotient.and_then(back), Ok(dividend));
+    assert_eq!(inverse.and_then(back), Ok((1 << n) - 1));
 }

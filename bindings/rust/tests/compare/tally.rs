@@ -4,7 +4,7 @@
 use sabrentuglio::{Grade, Reason};
 use std::collections::BTreeMap;
 
-/// The twelve calls, in the order of the table.
+/// The fourteen calls, in the order of the table.
 #[derive(Clone, Copy, Debug)]
 pub enum Call {
     Check,
@@ -18,11 +18,13 @@ pub enum Call {
     ListToPolynomial,
     ListToNormal,
     Times,
+    Inverse,
+    Quotient,
     Search,
 }
 
-/// The name of each call and document 01's order of its refusals.
-const ORDERS: [(&str, &[u64]); 12] = [
+/// The name of each call and the documents' order of its refusals.
+const ORDERS: [(&str, &[u64]); 14] = [
     ("check", &[1, 2, 3]),
     ("multiply", &[1, 4]),
     ("square", &[1, 4]),
@@ -34,13 +36,15 @@ const ORDERS: [(&str, &[u64]); 12] = [
     ("list_to_polynomial", &[7, 8, 9, 11, 4]),
     ("list_to_normal", &[7, 8, 9, 11, 4]),
     ("times", &[7, 8, 9, 4]),
+    ("inverse", &[7, 8, 9, 4, 13]),
+    ("quotient", &[7, 8, 9, 4, 13]),
     ("search", &[1, 4, 12, 2, 3]),
 ];
 
 /// Refusal 3 is in the table, but an f without divisors always returns x.
 const NEVER: u64 = 3;
 
-/// How often each of the other numbers is to be met at least.
+/// How often each of the other numbers is to be met at least, in each call.
 const OFTEN: u64 = 50;
 
 /// How often each number was met.
@@ -50,7 +54,7 @@ fn met(counts: &Counts, number: u64) -> u64 {
     counts.get(&number).copied().unwrap_or(0)
 }
 
-/// The numbers of document 01's table.
+/// The numbers of the refusal table.
 fn numbers() -> impl Iterator<Item = u64> {
     Reason::ALL.iter().map(|reason| reason.number())
 }
@@ -58,7 +62,7 @@ fn numbers() -> impl Iterator<Item = u64> {
 /// Counts for each call: done, as 0, and the numbers of the table.
 #[derive(Default)]
 pub struct Tally {
-    counts: [Counts; 12],
+    counts: [Counts; 14],
     grades: Counts,
     nothing: u64,
 }
@@ -105,7 +109,8 @@ impl Tally {
         for ((name, order), row) in ORDERS.iter().zip(&self.counts) {
             assert!(met(row, 0) > 0, "{} was never done", name);
             for number in order.iter().filter(|number| **number != NEVER) {
-                assert!(met(row, *number) > 0, "{} never refused {}", name, number);
+                let met = met(row, *number);
+                assert!(met >= OFTEN, "{} refused {} {} times", name, number, met);
             }
             let astray = row.keys().find(|n| **n != 0 && !order.contains(n));
             assert_eq!(astray, None, "{} has no such refusal", name);
