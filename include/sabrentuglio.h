@@ -80,10 +80,10 @@
 /*
  * The bytes of stack that a call may take, rounded up from a measurement, bindings/c/stack.c: no
  * call takes more than the first, and no call but desk_search more than the second. Measured were
- * 67 KiB for desk_search, 14 for the two that convert a list, 9 for desk_read, 8 for desk_build and
- * less than 1 for each of the others. The amount does not grow with a range or a list. It includes
- * memcpy and memset of the C library, and not the dynamic linker, which may look them up at the
- * first call.
+ * 67 KiB for desk_search, 14 for the two that convert a list and for desk_times, desk_inverse and
+ * desk_quotient, 9 for desk_read, 8 for desk_build and less than 1 for each of the others. The
+ * amount does not grow with a range or a list. It includes memcpy and memset of the C library, and
+ * not the dynamic linker, which may look them up at the first call.
  */
 #define SABRENTUGLIO_STACK 73728
 #define SABRENTUGLIO_STACK_BUT_SEARCH 16384

@@ -35,13 +35,15 @@ static void read(void) { number = desk_read(sheet, length).number; }
 static void to_polynomial(void) { number = desk_to_polynomial(sheet, length, a).number; }
 static void to_normal(void) { number = desk_to_normal(sheet, length, a).number; }
 static void times(void) { number = desk_times(sheet, length, a, b).number; }
+static void inverse(void) { number = desk_inverse(sheet, length, a).number; }
+static void quotient(void) { number = desk_quotient(sheet, length, a, b).number; }
 static void list_to_polynomial(void) { number = desk_list_to_polynomial(sheet, length, from, count, into, count).number; }
 static void list_to_normal(void) { number = desk_list_to_normal(sheet, length, from, count, into, count).number; }
 static void number_of(void) { number = !desk_number_of((const uint8_t *)word, strlen(word)).clear; }
 static void polynomial_of(void) { number = !desk_polynomial_of((const uint8_t *)word, strlen(word)).clear; }
 
-enum { CHECK, MULTIPLY, SQUARE, TRACE, SEARCH, BUILD, READ, TO_POLYNOMIAL, TO_NORMAL, TIMES, LIST_TO_POLYNOMIAL, LIST_TO_NORMAL, NUMBER_OF,
-       POLYNOMIAL_OF, CALLS };
+enum { CHECK, MULTIPLY, SQUARE, TRACE, SEARCH, BUILD, READ, TO_POLYNOMIAL, TO_NORMAL, TIMES, INVERSE, QUOTIENT, LIST_TO_POLYNOMIAL,
+       LIST_TO_NORMAL, NUMBER_OF, POLYNOMIAL_OF, CALLS };
 
 static struct {
     const char *name;
@@ -59,6 +61,8 @@ static struct {
     {"desk_to_polynomial", to_polynomial, 0, 0, 0},
     {"desk_to_normal", to_normal, 0, 0, 0},
     {"desk_times", times, 0, 0, 0},
+    {"desk_inverse", inverse, 0, 0, 0},
+    {"desk_quotient", quotient, 0, 0, 0},
     {"desk_list_to_polynomial", list_to_polynomial, 0, 0, 0},
     {"desk_list_to_normal", list_to_normal, 0, 0, 0},
     {"desk_number_of", number_of, 0, 0, 0},
@@ -122,7 +126,7 @@ static void measure_sheet(int degree, uint64_t element) {
     length = 32 * (size_t)degree;
     measure(READ);
     b = size - 1;
-    for (int call = TO_POLYNOMIAL; call <= TIMES; call++) measure(call);
+    for (int call = TO_POLYNOMIAL; call <= QUOTIENT; call++) measure(call);
     count = LIST;
     for (size_t i = 0; i < LIST; i++) from[i] = i % size;
     for (int call = LIST_TO_POLYNOMIAL; call <= LIST_TO_NORMAL; call++) measure(call);
@@ -131,7 +135,9 @@ static void measure_sheet(int degree, uint64_t element) {
     count = LIST + 1;
     for (int call = LIST_TO_POLYNOMIAL; call <= LIST_TO_NORMAL; call++) measure(call);
     a = size;
-    for (int call = TO_POLYNOMIAL; call <= TIMES; call++) measure(call);
+    for (int call = TO_POLYNOMIAL; call <= QUOTIENT; call++) measure(call);
+    a = b = 0;
+    for (int call = INVERSE; call <= QUOTIENT; call++) measure(call);
     sheet[length - 1] ^= 1;
     measure(READ);
     sheet[length - 8] ^= 1;
