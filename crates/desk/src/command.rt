@@ -12,6 +12,8 @@ pub(crate) enum Command {
     List,
     Verify,
     Times,
+    Inverse,
+    Quotient,
     Normal,
     Polynomial,
     Help,
@@ -46,6 +48,10 @@ fn sheet_command_of(word: &[u8]) -> Command {
         Command::Verify
     } else if same(word, b"times") {
         Command::Times
+    } else if same(word, b"inverse") {
+        Command::Inverse
+    } else if same(word, b"quotient") {
+        Command::Quotient
     } else if same(word, b"normal") {
         Command::Normal
     } else if same(word, b"polynomial") {

@@ -41,6 +41,8 @@ fn run(command: Command, places: &[usize; WORDS_ROOM], given: Given, output: Out
         Command::List => sheet_commands::list(places, given, output),
         Command::Verify => sheet_commands::verify(places, given, output),
         Command::Times => sheet_commands::times(places, given, output),
+        Command::Inverse => sheet_commands::inverse(places, given, output),
+        Command::Quotient => sheet_commands::quotient(places, given, output),
         Command::Normal => converting::normal(places, given, output),
         Command::Polynomial => converting::polynomial(places, given, output),
         Command::Help => pages::put_help(output),

@@ -31,6 +31,8 @@ fn put_sheet_commands(output: Output) -> bool {
             b"desk polynomial SHEET VALUE..   the elements of normal coordinates; with - for VALUE, from standard input\n",
         )
         && output.put(b"desk times SHEET A B            the product of normal coordinates\n")
+        && output.put(b"desk inverse SHEET A            the inverse of normal coordinates\n")
+        && output.put(b"desk quotient SHEET A B         A divided by B, in normal coordinates\n")
 }
 
 fn put_other_commands(output: Output) -> bool {

@@ -13,7 +13,7 @@ use words::Word;
 // The refusal of a number with more bits than the degree.
 pub(crate) const TOO_LARGE: u8 = 4;
 
-// What document 01's table says of a refusal. A number that is not in the table is told as such.
+// What document 01's table says of a refusal, and document 02 of 13. A number that neither has is told as such.
 fn say_meaning(number: u8) -> bool {
     match number {
         1 => say(b"the degree of f is not 2 to 46"),
@@ -34,6 +34,7 @@ fn say_meaning(number: u8) -> bool {
         ),
         11 => say(b"the lists differ in length or have more than 4096 values"),
         12 => say(b"the first of the range is greater than the last"),
+        13 => say(b"the divisor, or the number to invert, is zero"),
         _ => say(b"a number that this program has no meaning for"),
     }
 }

@@ -1,4 +1,4 @@
-// The commands on one sheet: build, show, list, verify and times.
+// The commands on one sheet: build, show, list, verify, times, inverse and quotient.
 use super::answers::answer_value;
 use super::complaints::no_text;
 use super::complaints::wrong_count;
@@ -17,6 +17,7 @@ use super::refusing::refuse_words;
 use gf2::LIMIT;
 use gf2::degree_of;
 use libc::STDIN_FILENO;
+use refusals::Value;
 use sheet::Issued;
 use sheet::RECORD;
 use streams::Ending;
@@ -135,6 +136,33 @@ pub(crate) fn verify(places: &[usize; WORDS_ROOM], given: Given, output: Output)
     read_and_tell(Telling::Verdict, places, given, output)
 }
 
+// What is worked out of normal coordinates.
+enum Operation {
+    Product(u64, u64),
+    Inverse(u64),
+    Quotient(u64, u64),
+}
+
+fn result_of(operation: Operation, bytes: &[u8]) -> Value {
+    match operation {
+        Operation::Product(a, b) => sheet::times(bytes, a, b),
+        Operation::Inverse(a) => sheet::inverse(bytes, a),
+        Operation::Quotient(a, b) => sheet::quotient(bytes, a, b),
+    }
+}
+
+// What is worked out through the sheet of word 1.
+fn answer_operation(operation: Operation, places: &[usize; WORDS_ROOM], output: Output) -> Ending {
+    let mut bytes = [0u8; INPUT_ROOM];
+    let got = read_sheet(places[1], &mut bytes);
+    if got < 0 {
+        return Ending::Failed;
+    }
+    let size = io::count(got, &bytes);
+    let degree = degree_named(&bytes[..size]);
+    answer_value(output, result_of(operation, &bytes[..size]), places, degree)
+}
+
 pub(crate) fn times(places: &[usize; WORDS_ROOM], given: Given, output: Output) -> Ending {
     if given.words != 4 {
         return wrong_count(places[0], b"times SHEET A B");
@@ -145,12 +173,28 @@ pub(crate) fn times(places: &[usize; WORDS_ROOM], given: Given, output: Output) 
     let Word::Number(b) = number_at(places[3]) else {
         return Ending::BadWord;
     };
-    let mut bytes = [0u8; INPUT_ROOM];
-    let got = read_sheet(places[1], &mut bytes);
-    if got < 0 {
-        return Ending::Failed;
+    answer_operation(Operation::Product(a, b), places, output)
+}
+
+pub(crate) fn inverse(places: &[usize; WORDS_ROOM], given: Given, output: Output) -> Ending {
+    if given.words != 3 {
+        return wrong_count(places[0], b"inverse SHEET A");
     }
-    let size = io::count(got, &bytes);
-    let degree = degree_named(&bytes[..size]);
-    answer_value(output, sheet::times(&bytes[..size], a, b), places, degree)
+    let Word::Number(a) = number_at(places[2]) else {
+        return Ending::BadWord;
+    };
+    answer_operation(Operation::Inverse(a), places, output)
+}
+
+pub(crate) fn quotient(places: &[usize; WORDS_ROOM], given: Given, output: Output) -> Ending {
+    if given.words != 4 {
+        return wrong_count(places[0], b"quotient SHEET A B");
+    }
+    let Word::Number(a) = number_at(places[2]) else {
+        return Ending::BadWord;
+    };
+    let Word::Number(b) = number_at(places[3]) else {
+        return Ending::BadWord;
+    };
+    answer_operation(Operation::Quotient(a, b), places, output)
 }
