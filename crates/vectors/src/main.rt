@@ -1,15 +1,17 @@
 // Runs document 01's "Small numbers to hold it against" and the complexities of source documents 000 and 001. The file stdout has
-// what those documents say. By theme:
+// what those documents say, and for division (document 02, §1) numbers that follow from its steps. By theme:
 //   complexities   the least complexity of small fields
 //   generators     the bases of 001's table 5
 //   sheets         sheets that are built, and elements that are refused
 //   conversions    coordinates, and a product, on one sheet
+//   divisions      inverses and quotients on two sheets
 //   checks         polynomials that the check takes or refuses
 //   searches       the searches at f = 19
 //   records        the bytes of a record, and sheets that lost one
 mod checks;
 mod complexities;
 mod conversions;
+mod divisions;
 mod generators;
 mod printing;
 mod records;
@@ -25,6 +27,7 @@ fn run() -> bool {
         && generators::run()
         && sheets::run()
         && conversions::run()
+        && divisions::run()
         && checks::run()
         && searches::run()
         && records::run()
