@@ -2,7 +2,7 @@
 # in several passes has the median of their times. What a program does not do, or did not run, is a dash.
 
 BEGIN {
-    calls = "multiply square check-irreducible check-product build read convert-one times convert-4096 convert-4096-singly"
+    calls = "multiply square check-irreducible check-product build read convert-one times-46 convert-4096 convert-4096-singly"
     label["multiply"] = "multiply"
     label["square"] = "square"
     label["check-irreducible"] = "check, f irreducible"
@@ -10,9 +10,11 @@ BEGIN {
     label["build"] = "build"
     label["read"] = "read"
     label["convert-one"] = "convert one"
-    label["times"] = "times"
+    label["times-46"] = "times"
     label["convert-4096"] = "convert 4,096; plain by its list"
     label["convert-4096-singly"] = "convert 4,096; plain by 4,096 single calls"
+    by_degree = "times"
+    degrees = "4 8 16 24 32"
     searches = "search-16 search-20 search-46-from-0 search-46-from-2^45"
     label["search-16"] = "degree 16, the whole field, f = 2^16+43"
     label["search-20"] = "degree 20, the whole field, f = 2^20+9"
@@ -97,6 +99,17 @@ function call_row(text, desk, plain, ntl) {
         shown_ratio(desk, ntl)
 }
 
+# The row of a call that every program was asked by the same name.
+function row_of(text, call) {
+    call_row(text, time_of(call, "desk"), time_of(call, "plain"), time_of(call, "ntl"))
+}
+
+# Opens a table of calls.
+function call_head() {
+    print "| call | desk | plain | desk : plain | NTL | desk : NTL |"
+    print "|---|---|---|---|---|---|"
+}
+
 function goal(text, ratio, met) {
     printf "| %s | %s | %s |\n", text, ratio == 0 ? "-" : digits(ratio), ratio == 0 ? "not measured" : met ? "yes" : "no"
 }
@@ -112,13 +125,19 @@ function rate_goal(search, program, name,    ratio) {
 }
 
 END {
-    print "| call | desk | plain | desk : plain | NTL | desk : NTL |"
-    print "|---|---|---|---|---|---|"
+    call_head()
     count = split(calls, list, " ")
     for (i = 1; i <= count; i++) {
-        call_row(label[list[i]], time_of(list[i], "desk"), time_of(list[i], "plain"), time_of(list[i], "ntl"))
+        row_of(label[list[i]], list[i])
         if (list[i] == "build") call_row("build; NTL the inversion alone", time_of("build", "desk"), 0, time_of("invert", "ntl"))
     }
+
+    print ""
+    call_head()
+    count = split(by_degree, list, " ")
+    sizes = split(degrees, degree, " ")
+    for (i = 1; i <= count; i++)
+        for (j = 1; j <= sizes; j++) row_of(list[i] ", degree " degree[j], list[i] "-" degree[j])
 
     print "\n| search | desk | plain | desk : plain | NTL | desk : NTL | NTL, words | desk : NTL, words | answer |"
     print "|---|---|---|---|---|---|---|---|---|"

@@ -1,6 +1,6 @@
 //! The calls on numbers, sheets and lists, each beside plain's.
 
-use crate::inputs::{Inputs, F, OPERANDS, PRODUCT, SHEETS};
+use crate::inputs::{Inputs, F, LOWER, OPERANDS, PRODUCT, SHEETS};
 use crate::rounds::{folded, pair};
 use sabrentuglio::{raw, MAX_LIST};
 
@@ -11,12 +11,16 @@ fn fold(times: u64, mut call: impl FnMut(usize) -> u64) -> u64 {
 
 /// Runs all of them.
 pub fn run() {
-    let inputs = Inputs::new();
+    let inputs = Inputs::new(F);
     products(&inputs);
     checks();
     sheets(&inputs);
     conversions(&inputs);
     lists(&inputs);
+    through_table(&inputs);
+    for f in LOWER {
+        through_table(&Inputs::new(f));
+    }
 }
 
 fn products(inputs: &Inputs) {
@@ -74,9 +78,9 @@ fn sheets(inputs: &Inputs) {
     );
 }
 
-/// Single values, to normal coordinates and back by turns, and products.
+/// Single values, to normal coordinates and back by turns.
 fn conversions(inputs: &Inputs) {
-    let (a, b) = (&inputs.a, &inputs.b);
+    let a = &inputs.a;
     let sheet = |i: usize| &inputs.sheets[i % SHEETS][..];
     let at = |i: usize| i % OPERANDS;
     pair(
@@ -94,12 +98,6 @@ fn conversions(inputs: &Inputs) {
                 _ => plain::to_polynomial(sheet(i), a[at(i)]).value,
             })
         },
-    );
-    pair(
-        "times",
-        OPERANDS as u64,
-        &mut |times| fold(times, |i| raw::times(sheet(i), a[at(i)], b[at(i)]).value),
-        &mut |times| fold(times, |i| plain::times(sheet(i), a[at(i)], b[at(i)]).value),
     );
 }
 
@@ -154,5 +152,20 @@ fn list_pair(name: &str, desk: impl Fn(usize, &mut [u64]), plain: impl Fn(usize,
         SHEETS as u64,
         &mut |times| last(&desk, &mut by_desk, times),
         &mut |times| last(&plain, &mut by_plain, times),
+    );
+}
+
+/// Products of normal coordinates through the table, at the degree of the
+/// inputs.
+fn through_table(inputs: &Inputs) {
+    let (a, b) = (&inputs.a, &inputs.b);
+    let sheet = |i: usize| &inputs.sheets[i % SHEETS][..];
+    let at = |i: usize| i % OPERANDS;
+    let name = |call: &str| format!("{}-{}", call, inputs.degree);
+    pair(
+        &name("times"),
+        OPERANDS as u64,
+        &mut |times| fold(times, |i| raw::times(sheet(i), a[at(i)], b[at(i)]).value),
+        &mut |times| fold(times, |i| plain::times(sheet(i), a[at(i)], b[at(i)]).value),
     );
 }

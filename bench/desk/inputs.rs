@@ -1,14 +1,24 @@
-//! What the calls are asked, at degree 46 and f = 2^46 + 3: the same numbers in
-//! every run, and in `ntl.cpp` drawn the same way.
+//! What the calls are asked, most at degree 46 and f = 2^46 + 3, some at lower
+//! degrees too: the same numbers in every run, and in `ntl.cpp` drawn the same
+//! way.
 
 use crate::random::Random;
 use sabrentuglio::{raw, MAX_LIST, RECORD_LENGTH};
 
-/// The degree of the inputs, which stays where the desk learns higher ones.
+/// The degree of most inputs, which stays where the desk learns higher ones.
 const DEGREE: u32 = 46;
 
 /// x^46 + x + 1, irreducible.
 pub const F: u64 = (1 << DEGREE) + 3;
+
+/// Irreducible ones of degree 4, 8, 16, 24 and 32.
+pub const LOWER: [u64; 5] = [
+    (1 << 4) + 3,
+    (1 << 8) + 27,
+    (1 << 16) + 43,
+    (1 << 24) + 27,
+    (1 << 32) + 141,
+];
 
 /// x^23 + x^5 + 1 times x^23 + x^9 + 1, both irreducible.
 pub const PRODUCT: u64 = 1 << DEGREE | 1 << 32 | 1 << 28 | 1 << 14 | 1 << 9 | 1 << 5 | 1;
@@ -21,6 +31,8 @@ pub const SHEETS: usize = 16;
 
 /// One set of inputs.
 pub struct Inputs {
+    /// The degree of its polynomial.
+    pub degree: u32,
     /// Left operands of products.
     pub a: Vec<u64>,
     /// Right operands of products.
@@ -34,24 +46,26 @@ pub struct Inputs {
 }
 
 impl Inputs {
-    /// Draws the set.
-    pub fn new() -> Inputs {
-        let mut random = Random::new(46);
-        let a = random.elements(DEGREE, OPERANDS);
-        let b = random.elements(DEGREE, OPERANDS);
+    /// Draws the set of an irreducible polynomial.
+    pub fn new(f: u64) -> Inputs {
+        let degree = 63 - f.leading_zeros();
+        let mut random = Random::new(u64::from(degree));
+        let a = random.elements(degree, OPERANDS);
+        let b = random.elements(degree, OPERANDS);
         let mut normal = Vec::new();
         let mut sheets = Vec::new();
         while normal.len() < SHEETS {
-            // Only elements of trace 1 can be normal: here those with the top bit.
-            let element = random.element(DEGREE) | 1 << (DEGREE - 1);
-            let mut sheet = vec![0; RECORD_LENGTH * DEGREE as usize];
-            if raw::build(F, element, &mut sheet).number == 0 {
+            // Only elements of trace 1 can be normal: at degree 46 those with the top bit.
+            let element = random.element(degree) | 1 << (degree - 1);
+            let mut sheet = vec![0; RECORD_LENGTH * degree as usize];
+            if raw::build(f, element, &mut sheet).number == 0 {
                 normal.push(element);
                 sheets.push(sheet);
             }
         }
-        let list = random.elements(DEGREE, MAX_LIST);
+        let list = random.elements(degree, MAX_LIST);
         Inputs {
+            degree,
             a,
             b,
             normal,
