@@ -2,21 +2,24 @@
 // desk.rs, whose answers they have to match:
 //
 //   ntl calls            GF2E multiply and square, IterIrredTest, mat_GF2 inversion, and algorithm 3 with the test of f, which is
-//                        what the desk's build has to do
+//                        what the desk's build has to do; GF2E inv and div on normal coordinates, which are converted and back
 //   ntl search SECONDS   the four searches, each of the two ways in ntl/conjugates.h with about so many seconds
 //
 // In ntl/: rounds.h takes times, words.h turns NTL's numbers into words and back, basis.h is algorithm 3, conjugates.h and search.h
-// are algorithm 2.
+// are algorithm 2, sheet.h converts.
 #include "ntl/basis.h"
 #include "ntl/conjugates.h"
 #include "ntl/rounds.h"
 #include "ntl/search.h"
+#include "ntl/sheet.h"
 #include "ntl/words.h"
 #include <NTL/GF2E.h>
 #include <NTL/GF2XFactoring.h>
 #include <NTL/version.h>
+#include <algorithm>
 #include <cstdlib>
 #include <cstring>
+#include <string>
 #include <vector>
 
 using namespace bench;
@@ -25,6 +28,10 @@ using NTL::GF2X;
 
 static const word one = 1;
 static const word irreducible = (one << 46) + 3;
+// Those of degree 46 and lower at which desk/inputs.rs draws its numbers.
+static const std::vector<word> by_degree = {
+    irreducible, (one << 4) + 3, (one << 8) + 27, (one << 16) + 43, (one << 24) + 27, (one << 32) + 141,
+};
 
 static GF2X polynomial(word value) {
     GF2X f;
@@ -50,26 +57,32 @@ struct Random {
         z = (z ^ z >> 27) * 0x94d049bb133111eb;
         return z ^ z >> 31;
     }
-    word element() { return number() & ((one << 46) - 1); }
+    word element(long n) { return number() & ((one << n) - 1); }
 };
 
+// The field is the one NTL was told of last.
 struct Inputs {
-    std::vector<GF2E> a, b;
-    std::vector<word> normal;
+    std::vector<word> a, b, divisors, normal;
     Inputs() {
-        Random random{46};
-        for (auto *operands : {&a, &b}) {
-            operands->resize(1024);
-            for (GF2E &operand : *operands) set(operand, random.element());
-        }
-        Basis basis(46);
+        const long n = GF2E::degree();
+        Random random{word(n)};
+        for (auto *operands : {&a, &b})
+            while (operands->size() < 1024) operands->push_back(random.element(n));
+        for (word operand : b) divisors.push_back(std::max(operand, one));
+        Basis basis(n);
         while (normal.size() < 16) {
-            const word element = random.element() | one << 45;
+            const word element = random.element(n) | one << (n - 1);
             Single conjugates{conjugates_of(element)};
             if (basis.complexity(conjugates) != 0) normal.push_back(element);
         }
     }
 };
+
+static std::vector<GF2E> elements(const std::vector<word> &values) {
+    std::vector<GF2E> elements(values.size());
+    for (std::size_t i = 0; i < values.size(); i++) set(elements[i], values[i]);
+    return elements;
+}
 
 static void run_calls() {
     const GF2X f = polynomial(irreducible);
@@ -77,13 +90,14 @@ static void run_calls() {
     const GF2X product = polynomial(one << 23 | 1 << 5 | 1) * polynomial(one << 23 | 1 << 9 | 1);
     GF2E::init(f);
     const Inputs inputs;
+    const std::vector<GF2E> a = elements(inputs.a), b = elements(inputs.b);
     GF2E answer;
     measure("multiply", 1024, [&](word i) {
-        mul(answer, inputs.a[i % 1024], inputs.b[i % 1024]);
+        mul(answer, a[i % 1024], b[i % 1024]);
         return word_of(answer);
     });
     measure("square", 1024, [&](word i) {
-        sqr(answer, inputs.a[i % 1024]);
+        sqr(answer, a[i % 1024]);
         return word_of(answer);
     });
     // 0 is accepted, 2 the desk's refusal.
@@ -99,6 +113,28 @@ static void run_calls() {
     const std::vector<GF2E> conjugates = conjugates_of(inputs.normal[0]);
     for (long i = 0; i < 46; i++) row(basis.conjugates, i) = word_of(conjugates[i]);
     measure("invert", 2, [&](word) { return basis.invert() ? row(basis.conjugates, 0) : 0; });
+}
+
+// Division of normal coordinates: they become elements, and NTL's answer normal coordinates again.
+static void run_divisions(word f) {
+    GF2E::init(polynomial(f));
+    const Inputs inputs;
+    const std::vector<Sheet> sheets(inputs.normal.begin(), inputs.normal.end());
+    const std::string degree = std::to_string(GF2E::degree());
+    GF2E dividend, divisor, answer;
+    measure(("inverse-" + degree).c_str(), 1024, [&](word i) {
+        const Sheet &sheet = sheets[i % 16];
+        sheet.to_polynomial(divisor, inputs.divisors[i % 1024]);
+        inv(answer, divisor);
+        return sheet.to_normal(answer);
+    });
+    measure(("quotient-" + degree).c_str(), 1024, [&](word i) {
+        const Sheet &sheet = sheets[i % 16];
+        sheet.to_polynomial(dividend, inputs.a[i % 1024]);
+        sheet.to_polynomial(divisor, inputs.divisors[i % 1024]);
+        div(answer, dividend, divisor);
+        return sheet.to_normal(answer);
+    });
 }
 
 struct Search {
@@ -143,6 +179,7 @@ int main(int count, char **words) {
     if (count == 2 && !std::strcmp(words[1], "calls")) {
         std::printf("version ntl %s\n", NTL_VERSION);
         run_calls();
+        for (word f : by_degree) run_divisions(f);
     } else if (count == 3 && !std::strcmp(words[1], "search")) {
         for (const Search &search : searches) {
             run_search(search, "ntl", bench::search<ByElements>, std::atof(words[2]));

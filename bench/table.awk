@@ -2,7 +2,8 @@
 # in several passes has the median of their times. What a program does not do, or did not run, is a dash.
 
 BEGIN {
-    calls = "multiply square check-irreducible check-product build read convert-one times-46 convert-4096 convert-4096-singly"
+    calls = "multiply square check-irreducible check-product build read convert-one times-46 inverse-46 quotient-46"
+    calls = calls " convert-4096 convert-4096-singly"
     label["multiply"] = "multiply"
     label["square"] = "square"
     label["check-irreducible"] = "check, f irreducible"
@@ -11,9 +12,11 @@ BEGIN {
     label["read"] = "read"
     label["convert-one"] = "convert one"
     label["times-46"] = "times"
+    label["inverse-46"] = "inverse"
+    label["quotient-46"] = "quotient"
     label["convert-4096"] = "convert 4,096; plain by its list"
     label["convert-4096-singly"] = "convert 4,096; plain by 4,096 single calls"
-    by_degree = "times"
+    by_degree = "times inverse quotient"
     degrees = "4 8 16 24 32"
     searches = "search-16 search-20 search-46-from-0 search-46-from-2^45"
     label["search-16"] = "degree 16, the whole field, f = 2^16+43"
@@ -119,6 +122,12 @@ function time_goal(text, call, program, most,    ratio) {
     goal(text, ratio, ratio <= most)
 }
 
+# A call of the desk beside another one of its own.
+function own_goal(text, call, other, most,    ratio) {
+    ratio = time_of(other, "desk") == 0 ? 0 : time_of(call, "desk") / time_of(other, "desk")
+    goal(text, ratio, ratio <= most)
+}
+
 function rate_goal(search, program, name,    ratio) {
     ratio = rate_of(search, program) == 0 ? 0 : rate_of(search, "desk") / rate_of(search, program)
     goal("search, " label[search] ": at least 12 times the elements of " name, ratio, ratio >= 12)
@@ -154,6 +163,7 @@ END {
     time_goal("check, f irreducible: at most 4 times NTL's time", "check-irreducible", "ntl", 4)
     time_goal("check, f a product: at most 4 times NTL's time", "check-product", "ntl", 4)
     time_goal("convert 4,096: at most a tenth of 4,096 single conversions in plain", "convert-4096-singly", "plain", 0.1)
+    own_goal("inverse: at most 4 times the time of `times` in this run", "inverse-46", "times-46", 4)
     for (i = 2; i <= count; i++) {
         rate_goal(list[i], "ntl", "NTL")
         rate_goal(list[i], "ntl-words", "NTL, words")

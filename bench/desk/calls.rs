@@ -155,10 +155,10 @@ fn list_pair(name: &str, desk: impl Fn(usize, &mut [u64]), plain: impl Fn(usize,
     );
 }
 
-/// Products of normal coordinates through the table, at the degree of the
-/// inputs.
+/// Products, inverses and quotients of normal coordinates through the table, at
+/// the degree of the inputs.
 fn through_table(inputs: &Inputs) {
-    let (a, b) = (&inputs.a, &inputs.b);
+    let (a, b, divisors) = (&inputs.a, &inputs.b, &inputs.divisors);
     let sheet = |i: usize| &inputs.sheets[i % SHEETS][..];
     let at = |i: usize| i % OPERANDS;
     let name = |call: &str| format!("{}-{}", call, inputs.degree);
@@ -167,5 +167,25 @@ fn through_table(inputs: &Inputs) {
         OPERANDS as u64,
         &mut |times| fold(times, |i| raw::times(sheet(i), a[at(i)], b[at(i)]).value),
         &mut |times| fold(times, |i| plain::times(sheet(i), a[at(i)], b[at(i)]).value),
+    );
+    pair(
+        &name("inverse"),
+        OPERANDS as u64,
+        &mut |times| fold(times, |i| raw::inverse(sheet(i), divisors[at(i)]).value),
+        &mut |times| fold(times, |i| plain::inverse(sheet(i), divisors[at(i)]).value),
+    );
+    pair(
+        &name("quotient"),
+        OPERANDS as u64,
+        &mut |times| {
+            fold(times, |i| {
+                raw::quotient(sheet(i), a[at(i)], divisors[at(i)]).value
+            })
+        },
+        &mut |times| {
+            fold(times, |i| {
+                plain::quotient(sheet(i), a[at(i)], divisors[at(i)]).value
+            })
+        },
     );
 }

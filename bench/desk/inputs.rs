@@ -37,6 +37,8 @@ pub struct Inputs {
     pub a: Vec<u64>,
     /// Right operands of products.
     pub b: Vec<u64>,
+    /// Divisors: the right operands, with 1 in the place of 0.
+    pub divisors: Vec<u64>,
     /// Normal elements.
     pub normal: Vec<u64>,
     /// Their sheets.
@@ -52,6 +54,7 @@ impl Inputs {
         let mut random = Random::new(u64::from(degree));
         let a = random.elements(degree, OPERANDS);
         let b = random.elements(degree, OPERANDS);
+        let divisors = b.iter().map(|operand| *operand.max(&1)).collect();
         let mut normal = Vec::new();
         let mut sheets = Vec::new();
         while normal.len() < SHEETS {
@@ -68,6 +71,7 @@ impl Inputs {
             degree,
             a,
             b,
+            divisors,
             normal,
             sheets,
             list,
