@@ -75,7 +75,7 @@
 #include <stdint.h>
 
 /* The version of the product, which the archive, the command line and the Rust crate share. */
-#define SABRENTUGLIO_VERSION "1.0.0"
+#define SABRENTUGLIO_VERSION "1.1.0"
 
 /*
  * The bytes of stack that a call may take, rounded up from a measurement, bindings/c/stack.c: no

@@ -89,5 +89,5 @@ pub(crate) fn put_help(output: Output) -> Ending {
 
 // The one version number of the program, the C header and the Rust crate.
 pub(crate) fn put_version(output: Output) -> Ending {
-    done_if(output.put(b"desk 1.0.0\n"))
+    done_if(output.put(b"desk 1.1.0\n"))
 }

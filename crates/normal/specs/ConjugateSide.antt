@@ -10,7 +10,6 @@
 -- Assumes nothing.
 use mathlib.Core.Path.{_≡_, sym, ap, ap₂, _∙_}
 use mathlib.Core.Logic.{⊎-elim}
-use mathlib.Core.List.{List}
 use Prim.Native.Nat.{ℕ, _-_, _^_, _≤_, _<_}
 use native.Mathlib.Omega.{arith}
 use lib.Pow.{pow-mono}
@@ -26,7 +25,7 @@ use Rattle.normal.specs.Coordinates.{selected-unique}
 use Rattle.normal.specs.Selected.{selected-lt, rotate-square}
 use Rattle.normal.specs.Products.{tableRows-table}
 use Rattle.normal.specs.ProductBits.{table-product, tableProduct-lt}
-use Rattle.normal.specs.Rotation.{rotate-lt, rotate-large}
+use Rattle.normal.specs.Rotation.{rotate-large}
 use Rattle.normal.specs.TableProduct.{rotate, tableProduct}
 
 module _ (f n : ℕ) (deg : Degree f n) (two : 2 ≤ n) (returns : squared f n n 2 ≡ 2) (a : ℕ) (ha : a < 2 ^ n) (free : Independent (conjugates f n a) n) where

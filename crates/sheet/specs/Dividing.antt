@@ -5,9 +5,9 @@ use mathlib.Core.Path.{_≡_, sym, ap, _∙_}
 use mathlib.Core.List.{List, [], _∷_}
 use Prim.Native.Nat.{ℕ, _^_, _<_}
 use native.Mathlib.Omega.{arith}
-use borrow.Author.Tests.{eq-eqb, ne-eqb, eqb-false}
+use borrow.Author.Tests.{eq-eqb, ne-eqb}
 use Rattle.refusals.specs.Verdicts.{Verdict, clear, refuse, firstOf, andThen}
-use Rattle.refusals.specs.Orders.{first-applies, first-passes, first-none, first-clear, first-append, part-clear, parts-clear}
+use Rattle.refusals.specs.Orders.{first-applies, first-passes, first-none, first-append, parts-clear}
 use Rattle.rows.specs.ByteSums.{bytes, byteSums}
 use Rattle.normal.specs.Normal.{padded}
 use Rattle.normal.specs.Summed.{summedRows, Summed, summed-rows, summed-matrix}

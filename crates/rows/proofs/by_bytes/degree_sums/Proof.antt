@@ -5,7 +5,7 @@ use mathlib.Core.List.{List}
 use Prim.Native.Nat.{ℕ, _+_, _-_, _*_, _/_, _≤_}
 use native.Mathlib.Omega.{arith}
 use borrow.Author.Needs.{needs}
-use lib.ListN.{length, getD, replicate, length-replicate}
+use lib.ListN.{length, replicate, length-replicate}
 use Rattle.gf2.specs.Limit.{limit}
 use Rattle.rows.specs.Rows.{Matrix}
 use Rattle.rows.specs.Sums.{zeros-at}

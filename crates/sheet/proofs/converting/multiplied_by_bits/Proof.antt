@@ -1,6 +1,6 @@
 -- `sheet::converting::multiplied_by_bits` meets its contract: the table as it stands, and zeros after it.
 -- Assumes nothing.
-use mathlib.Core.Path.{_≡_, sym, ap, _∙_}
+use mathlib.Core.Path.{_≡_, ap, _∙_}
 use mathlib.Core.List.{List}
 use Prim.Native.Nat.{ℕ}
 use native.Mathlib.Omega.{arith}

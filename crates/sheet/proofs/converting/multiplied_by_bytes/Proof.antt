@@ -1,9 +1,8 @@
 -- `sheet::converting::multiplied_by_bytes` meets its contract: the sums are of the table's rows.
 -- Assumes nothing.
-use mathlib.Core.Path.{_≡_, sym, ap, _∙_}
+use mathlib.Core.Path.{ap, _∙_}
 use mathlib.Core.List.{List}
 use Prim.Native.Nat.{ℕ}
-use native.Mathlib.Omega.{arith}
 use borrow.Author.Needs.{needs}
 use Rattle.normal.specs.TableProduct.{tableProduct}
 use Rattle.normal.specs.Summed.{summedRows}

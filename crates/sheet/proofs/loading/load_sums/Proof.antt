@@ -2,9 +2,7 @@
 -- Assumes nothing.
 use mathlib.Core.Path.{ap, _∙_}
 use native.Mathlib.Omega.{arith}
-use borrow.Author.Needs.{needs}
 use Rattle.rows.specs.ByteSums.{bytes, byteSums}
-use Rattle.rows.specs.Rows.{Matrix}
 use Rattle.normal.specs.Filling.{padded-matrix}
 use Rattle.sheet.specs.Record.{recordCount, tableRowsIn}
 use Rattle.sheet.specs.Clear.{table-matrix}
