@@ -30,7 +30,8 @@ static const word one = 1;
 static const word irreducible = (one << 46) + 3;
 // Those of degree 46 and lower at which desk/inputs.rs draws its numbers.
 static const std::vector<word> by_degree = {
-    irreducible, (one << 4) + 3, (one << 8) + 27, (one << 16) + 43, (one << 24) + 27, (one << 32) + 141,
+    irreducible,      (one << 4) + 3,   (one << 8) + 27,  (one << 16) + 43,
+    (one << 20) + 9,  (one << 24) + 27, (one << 32) + 141,
 };
 
 static GF2X polynomial(word value) {

@@ -17,7 +17,7 @@ BEGIN {
     label["convert-4096"] = "convert 4,096; plain by its list"
     label["convert-4096-singly"] = "convert 4,096; plain by 4,096 single calls"
     by_degree = "times inverse quotient"
-    degrees = "4 8 16 24 32"
+    degrees = "4 8 16 20 24 32"
     searches = "search-16 search-20 search-46-from-0 search-46-from-2^45"
     label["search-16"] = "degree 16, the whole field, f = 2^16+43"
     label["search-20"] = "degree 20, the whole field, f = 2^20+9"

@@ -11,11 +11,12 @@ const DEGREE: u32 = 46;
 /// x^46 + x + 1, irreducible.
 pub const F: u64 = (1 << DEGREE) + 3;
 
-/// Irreducible ones of degree 4, 8, 16, 24 and 32.
-pub const LOWER: [u64; 5] = [
+/// Irreducible ones of degree 4, 8, 16, 20, 24 and 32.
+pub const LOWER: [u64; 6] = [
     (1 << 4) + 3,
     (1 << 8) + 27,
     (1 << 16) + 43,
+    (1 << 20) + 9,
     (1 << 24) + 27,
     (1 << 32) + 141,
 ];
@@ -58,7 +59,8 @@ impl Inputs {
         let mut normal = Vec::new();
         let mut sheets = Vec::new();
         while normal.len() < SHEETS {
-            // Only elements of trace 1 can be normal: at degree 46 those with the top bit.
+            // Only elements of trace 1 can be normal: at degree 46 those with the top bit. Elsewhere
+            // the bit does not matter.
             let element = random.element(degree) | 1 << (degree - 1);
             let mut sheet = vec![0; RECORD_LENGTH * degree as usize];
             if raw::build(f, element, &mut sheet).number == 0 {

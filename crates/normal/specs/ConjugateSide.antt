@@ -1,7 +1,8 @@
 -- The product of normal coordinates through the table of a normal element, over all degrees at once. Converting is one to one
--- (`stands-unique`) and takes the product of coordinates to the product of elements (`stands-product`), so the laws of the product are the
--- field's. In order: what a number stands for; the product is commutative and associative; modulo an irreducible f the number with all n bits set
--- stands for 1.
+-- (`stands-unique`) and takes the product of coordinates to the product of elements (`stands-product`) and rotation to squaring
+-- (`stands-rotate`), so the laws of the product are the field's. In order: what a number stands for; the product is commutative and
+-- associative (`times-comm`, `times-assoc`); modulo an irreducible f the number with all n bits set stands for 1 (`stands-ones`), and a number
+-- times it is the number (`times-ones`).
 --
 --   stands v     the element that v stands for
 --   times u v    the product of u and v through the table

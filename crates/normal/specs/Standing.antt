@@ -1,7 +1,7 @@
 -- What powers, inverses and quotients of normal coordinates stand for, through the table of a normal element, over all degrees: the power
 -- for k stands for the element's power with exponent 2^k-1 (`power-stands`), the inverse for its power with exponent 2^n-2
--- (`inverse-stands`). Modulo an irreducible f: a number times its inverse is the one (`inverse-times`, `times-inverse`), and the quotient is
--- the one number whose product with the divisor is the dividend (`quotient-times`, `quotient-only`).
+-- (`inverse-stands`). Modulo an irreducible f: a number times its inverse is the number with all n bits set (`inverse-times`,
+-- `times-inverse`), and the quotient is the only number whose product with the divisor is the dividend (`quotient-times`, `quotient-only`).
 -- Assumes nothing.
 use mathlib.Core.Path.{_≡_, refl, sym, ap, ap₂, _∙_}
 use mathlib.Core.Logic.{⊎-elim}
@@ -31,7 +31,6 @@ use Rattle.normal.specs.ConjugateSide.{times-lt, stands-lt, stands-produ
 -- 2^h (2^h - 1) + (2^h - 1) is 2^(2h) - 1
 even-exponent : (h : ℕ) → 2 ^ h * (2 ^ h - 1) + (2 ^ h - 1) ≡ 2 ^ (2 * h) - 1
 even-exponent h =
-    let p : ℕ = 2 ^ h in
     let e : 2 * h ≡ h + h = omega arith in
     let s : 2 ^ h ≡ suc (2 ^ h - 1) = omega (arith, pow-pos h) in
     let d : 2 ^ (2 * h) ≡ 2 ^ h * 2 ^ h = ap (λ (x : ℕ). 2 ^ x) e ∙ pow-add 2 h h in
@@ -62,7 +61,7 @@ module _ (f n : ℕ) (deg : Degree f n) (two : 2 ≤ n) where
   pow-next y e = mulMod-comm f n deg (powMod f n y e) y
 
   -- a power squared h times in a row
-  pub squared-pow : (h y e : ℕ) → squared f n h (powMod f n y e) ≡ powMod f n y (2 ^ h * e)
+  squared-pow : (h y e : ℕ) → squared f n h (powMod f n y e) ≡ powMod f n y (2 ^ h * e)
   unfolding squared
   squared-pow zero y e = ap (powMod f n y) (sym (one-mul e))
   squared-pow (suc h) y e =
@@ -86,7 +85,7 @@ module _ (f n : ℕ) (deg : Degree f n) (two : 2 ≤ n) (returns : squared f n n
   powers-lt k v h = let tab = tableRows-table f n deg a ha free in power-lt n pos T (tab .size) (tab .row-lt) k v h
 
   -- rotated h places: squared h times
-  pub rotatedBy-stands : (h v : ℕ) → v < 2 ^ n → stands (rotatedBy n h v) ≡ squared f n h (stands v)
+  rotatedBy-stands : (h v : ℕ) → v < 2 ^ n → stands (rotatedBy n h v) ≡ squared f n h (stands v)
   unfolding rotatedBy squared
   rotatedBy-stands zero v l = refl
   rotatedBy-stands (suc h) v l =
@@ -160,7 +159,7 @@ module _ (f n : ℕ) (deg : Degree f n) (two : 2 ≤ n) (returns : squared f n n
       stands-positive : 0 < stands v
       stands-positive = ⊎-elim (λ (l : 0 < stands v). l) (λ (l : stands v ≤ 0). absurd (free v nonzero hv (omega arith))) (order 0 (stands v))
 
-      -- a number times its inverse is the one
+      -- a number times its inverse is the number with all n bits set
       pub times-inverse : tableProduct n T v (inverseOf n T v) ≡ 2 ^ n - 1
       times-inverse =
           stands-unique f n deg two returns a ha free (tableProduct n T v (inverseOf n T v)) (2 ^ n - 1)

@@ -24,7 +24,7 @@ fn rotated_by(n: u32, h: u32, v: u64) -> u64
 }
 
 // The power of a with exponent 2^k - 1, "made from the one for half of k, rounded down, so the work calls itself on a smaller k".
-pub fn power_of(sums: &[u64; BYTE_SUMS], n: u32, k: u32, a: u64) -> u64
+fn power_of(sums: &[u64; BYTE_SUMS], n: u32, k: u32, a: u64) -> u64
     requires { ⌜ Summed n (now sums) × (1 ≤ k) × (a < 2 ^ n) ⌝ }
     ensures { λ r. ⌜ r ≡ powerOf n (summedRows n (now (sums .entry))) k a ⌝ }
 {

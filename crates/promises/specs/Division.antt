@@ -11,7 +11,7 @@
 --   zero-divided                 0 divided by a number is 0, on any sheet
 --   ..-same-steps                "On other well-shaped sheets the same steps give the answer."
 --   ..-zero-exactly, ..-earlier  13 exactly for a number to invert, or a divisor, that is zero, "after 4"
---   inverted-runs, divided-runs  `inverts` and `divides` of the calls themselves: of every run of them
+--   inverted-runs, divided-runs  `inverts` and `divides` of the calls themselves: of every run of them (`InverseRun`, `QuotientRun`)
 --
 -- Assumes nothing.
 use mathlib.Core.Path.{_≡_, refl, sym, ap, _∙_}
@@ -35,7 +35,7 @@ use Rattle.normal.specs.Powers.{powerOf}
 use Rattle.sheet.specs.Record.{recordCount, conjugateIn, polynomialIn, tableRowsIn}
 use Rattle.sheet.specs.Orders.{valueOrder, timesOrder}
 use Rattle.sheet.specs.Answers.{readAnswer, toPolynomial, polynomialAnswer, throughTable, timesAnswer, inverseThrough, inverseAnswer, quotientThrough, quotientAnswer}
-use Rattle.sheet.specs.Divided.{inverse-earlier, inverse-of-zero, inverse-steps, quotient-earlier, quotient-by-zero, quotient-steps, quotient-through, zero-quotient, inverse-answered, quotient-answered, power-below, power-element, inverse-below, inverse-element, quotient-below, product-inverse, inverse-product, quotient-product, quotient-alone, one-below, one-element}
+use Rattle.sheet.specs.Divided.{inverse-earlier, inverse-of-zero, inverse-steps, quotient-earlier, quotient-by-zero, quotient-steps, divisor-clear, quotient-through, zero-quotient, inverse-answered, quotient-answered, power-below, power-element, inverse-below, inverse-element, quotient-below, product-inverse, inverse-product, quotient-product, quotient-alone, one-below, one-element}
 use Rattle.sheet.specs.Issued.{polynomial-answered, times-answered}
 use Rattle.sheet.specs.Sheets.{SheetOf}
 use Rattle.sheet.specs.Through.{element-lt, product-of}
@@ -174,9 +174,13 @@ module _ (sheet : List ℕ) (b v : ℕ) where
     pub quotient-same-steps : quotientAnswer sheet b v ≡ value.Done (quotientThrough sheet b v)
     quotient-same-steps = quotient-steps sheet b v c p
 
-    -- "a quotient is the dividend times the inverse": what times answers for the dividend and the inverse
-    pub quotient-is-product : quotientAnswer sheet b v ≡ timesAnswer sheet b (inverseThrough sheet v)
-    quotient-is-product = quotient-same-steps ∙ sym (quotient-through sheet b v c)
+    -- "a quotient is the dividend times the inverse": what times answers for the dividend and what inverse answers for the divisor
+    pub quotient-is-product : (w : ℕ) × (inverseAnswer sheet v ≡ value.Done w) × (quotientAnswer sheet b v ≡ timesAnswer sheet b w)
+    quotient-is-product = (
+      inverseThrough sheet v,
+      inverse-steps sheet v (divisor-clear sheet b v c) p,
+      quotient-same-steps ∙ sym (quotient-through sheet b v c),
+    )
 
 pub zero-divided : (sheet : List ℕ) (v : ℕ) → firstOf (timesOrder sheet 0 v) ≡ clear → 0 < v → quotientAnswer sheet 0 v ≡ value.Done 0
 zero-divided sheet v c p = quotient-steps sheet 0 v c p ∙ ap value.Done (zero-quotient sheet v)

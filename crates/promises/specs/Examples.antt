@@ -1,4 +1,5 @@
--- The small numbers of document 01 ("Small numbers to hold it against"), of what the calls answer, and of division (document 02, §1).
+-- The small numbers of document 01 ("Small numbers to hold it against"), of what the calls answer; and those of division (document 02, §1),
+-- of its definitions on rows that are written out.
 --
 --   Issued, Refused, Converted, Multiplied, Rejected   what a line says of the calls
 --   examples          the twelve lines marked P, in one table
@@ -123,7 +124,7 @@ pub quotients : (astray 7 2 (2 ∷ 3 ∷ []) (2 ∷ 3 ∷ []) ≡ false) × (ast
 unfolding some quotientOf inverseOf powerOf powerWithin rotate rotatedBy tableProduct productBit total bitOf comb mulMod rem reduce product digits digitsFrom _⊕_
 quotients = (refl, refl, refl)
 
--- the rotated factor before the other, and the dividend before the inverse: the other way round each of these would be 0
+-- the rotated factor before the other, for even and for odd k, and the dividend before the inverse: the other way round, other numbers
 pub factors-in-order : (inverseOf 3 (0 ∷ 0 ∷ 1 ∷ []) 1 ≡ 4) × (inverseOf 4 (0 ∷ 0 ∷ 0 ∷ 1 ∷ []) 3 ≡ 8) × (quotientOf 4 (0 ∷ 0 ∷ 0 ∷ 1 ∷ []) 3 3 ≡ 1)
 unfolding quotientOf inverseOf powerOf powerWithin rotate rotatedBy tableProduct productBit total bitOf
 factors-in-order = (refl, refl, refl)

@@ -1,9 +1,9 @@
--- The numbers that each call's order has, as document 01 lists them, and the places that its table has for them ("Refusal numbers",
+-- The numbers that each call's order has, as the documents list them, and the places that its table has for them ("Refusal numbers",
 -- "Orders."; document 02, §1): every rule of the order has such a number and such a place.
 --
 --   OnShape, OnValue, OnDivision, OnList, OnReading   the numbers and places of the calls on a sheet of m records
 --   ..-listed, ..-positive                            an order has these, and none of the numbers is 0
---   field-orders, ..-sequence                         the numbers of an order, one after another, are those that document 01 lists
+--   field-orders, ..-sequence                         the numbers of an order, one after another, are those that the documents list
 --
 -- Assumes nothing.
 use mathlib.Core.Path.{_≡_, refl, ap, _∙_}

@@ -7,8 +7,9 @@
 --   inverse-answered, quotient-answered                 the calls
 --   power-below, inverse-below, quotient-below          what they give is below 2^n
 --   power-element, inverse-element                      what powers and inverses stand for
---   one-element, inverse-product, product-inverse       the number with all n bits set stands for 1, and is a number times its inverse
---   quotient-product, quotient-alone                    quotient times divisor is the dividend, and no other number is
+--   one-below, one-element                              the number with all n bits set, which stands for 1
+--   inverse-product, product-inverse                    it is a number times its inverse, either way round
+--   quotient-product, quotient-alone                    quotient times divisor is the dividend, and no other number times it is
 --
 -- Assumes nothing.
 use mathlib.Core.Path.{_≡_, ap, _∙_}
@@ -79,6 +80,12 @@ module _ (sheet : List ℕ) (b v : ℕ) where
     pub quotient-steps : 0 < v → quotientAnswer sheet b v ≡ value.Done (quotientThrough sheet b v)
     unfolding quotientAnswer answerOf
     quotient-steps p = ap (λ (w : Verdict). valueOf w (quotientThrough sheet b v)) (part-clear both (zeroRule v ∷ []) c ∙ zero-passes v (λ e. omega arith))
+
+    -- where nothing is refused of a dividend and a divisor, nothing is of the divisor alone
+    pub divisor-clear : firstOf (valueOrder sheet (v ∷ [])) ≡ clear
+    divisor-clear =
+        let j = values-judged sheet b v c in
+        value-passes sheet (parts-clear (shapeOrder sheet) (elementOrder (recordCount sheet) (b ∷ v ∷ [])) c .0) (v ∷ []) (value-small (recordCount sheet) v (j .2))
 
     -- "a quotient is the dividend times the inverse": the product of the two is done, and is the quotient
     pub quotient-through : timesAnswer sheet b (inverseThrough sheet v) ≡ value.Done (quotientThrough sheet b v)

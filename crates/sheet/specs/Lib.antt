@@ -9,6 +9,7 @@ pub mod Writing
 pub mod Basis
 pub mod Answered
 pub mod Building
+pub mod Loaded
 pub mod Converting
 pub mod Dividing
 pub mod Lists

@@ -17,7 +17,7 @@ use refusals::Value;
 use refusals::refused;
 use rows::BYTE_SUMS;
 
-// 13 for a divisor or a number to invert.
+// 13 for a divisor or a number to invert that is zero.
 fn zero_verdict(value: u64) -> Checked
     ensures { λ r. ⌜ r ≡ checkedOf (firstOf (zeroRule value ∷ [])) ⌝ }
 {

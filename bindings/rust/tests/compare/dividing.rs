@@ -10,8 +10,9 @@ use sabrentuglio::{multiply, Refusal, Sheet, RECORD_LENGTH};
 
 /// The inverses of 1, 2, 3 and so on, on the sheets of f and an element. They
 /// were found in the polynomial notation, by trying.
-const INVERSES: [(u64, u64, &[u64]); 2] = [
+const INVERSES: [(u64, u64, &[u64]); 3] = [
     (7, 2, &[2, 1, 3]),
+    (11, 3, &[3, 6, 1, 5, 4, 2, 7]),
     (19, 8, &[4, 8, 13, 1, 10, 11, 12, 2, 14, 5, 6, 7, 3, 9, 15]),
 ];
 
@@ -20,6 +21,7 @@ pub fn run(pair: &mut Pair, random: &mut Random, fields: &Fields) {
     for (f, element, inverses) in INVERSES {
         every_pair(pair, f, element, inverses).expect("all of it is done");
     }
+    // Every degree, and so every step of the power: k is n-1, and 1, even and odd.
     for field in fields.all() {
         for sheet in &sheets(random, field) {
             if field.n <= 4 {

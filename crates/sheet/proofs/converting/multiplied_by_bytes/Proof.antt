@@ -8,7 +8,7 @@ use Rattle.normal.specs.TableProduct.{tableProduct}
 use Rattle.normal.specs.Summed.{summedRows}
 use Rattle.sheet.specs.Record.{recordCount}
 use Rattle.sheet.specs.Answers.{throughTable}
-use Rattle.sheet.specs.Dividing.{loaded-rows, loaded-sums}
+use Rattle.sheet.specs.Loaded.{loaded-rows, loaded-sums}
 use Rattle.sheet.proofs.converting.multiplied_by_bytes.Statement.{statement}
 use Rattle.sheet.proofs.converting.multiplied_by_bytes.Tie as tie
 

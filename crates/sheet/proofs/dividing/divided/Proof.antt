@@ -11,7 +11,7 @@ use Rattle.normal.specs.Recursion.{inverse-lt}
 use Rattle.normal.specs.Summed.{summedRows, summedRows-length}
 use Rattle.sheet.specs.Record.{recordCount}
 use Rattle.sheet.specs.Answers.{quotientThrough}
-use Rattle.sheet.specs.Dividing.{loaded-rows, loaded-sums}
+use Rattle.sheet.specs.Loaded.{loaded-rows, loaded-sums}
 use Rattle.sheet.proofs.dividing.divided.Statement.{statement}
 use Rattle.sheet.proofs.dividing.divided.Tie as tie
 

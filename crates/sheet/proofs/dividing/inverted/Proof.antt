@@ -8,7 +8,7 @@ use borrow.Author.Needs.{needs}
 use Rattle.normal.specs.Powers.{inverseOf}
 use Rattle.sheet.specs.Record.{recordCount}
 use Rattle.sheet.specs.Answers.{inverseThrough}
-use Rattle.sheet.specs.Dividing.{loaded-rows, loaded-sums}
+use Rattle.sheet.specs.Loaded.{loaded-rows, loaded-sums}
 use Rattle.sheet.proofs.dividing.inverted.Statement.{statement}
 use Rattle.sheet.proofs.dividing.inverted.Tie as tie
 
