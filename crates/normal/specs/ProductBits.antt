@@ -1,7 +1,8 @@
 -- The product by turns has the bits of document 01's formula: bit k is the sum modulo 2, over all i and j, of
 -- a_i b_j t((j-i) mod n, (k-i) mod n). So the number that the formula gives is the product by turns (`horner-table`), and through the
--- table of a normal element it is the product of elements (`table-product`). In order: sums modulo 2, over a cycle of indices too;
--- bits of numbers and of sums of rows; the product by turns, bit by bit; document 01's formula.
+-- table of a normal element it is the product of elements (`table-product`). Through any rows 0 times a number is 0 (`tableProduct-zero`).
+-- In order: sums modulo 2, over a cycle of indices too; bits of numbers and of sums of rows; the product by turns, bit by bit; document 01's
+-- formula.
 --
 --   xorSum k g   the exclusive or of g 0 to g (k - 1)
 --
@@ -10,7 +11,7 @@ use mathlib.Core.Path.{_≡_, refl, sym, ap, ap₂, _∙_}
 use mathlib.Core.Logic.{_⊎_, inl, inr}
 use mathlib.Core.List.{List, [], _∷_}
 use Prim.Native.Nat.{ℕ, zero, suc, _+_, _-_, _*_, _/_, _%_, _^_, _≤_, _<_}
-use native.Mathlib.Nat.{le-refl, mul-zero, mul-assoc, mul-one, pow-suc, mod-lt, mod-eq-of-lt, mod-self, mod-add-mod, add-mod-right, add-zero, div-one, zero-div, not-suc-le-zero}
+use native.Mathlib.Nat.{le-refl, zero-mul, mul-zero, mul-assoc, mul-one, pow-suc, mod-lt, mod-eq-of-lt, mod-self, mod-add-mod, add-mod-right, add-zero, div-one, zero-div, not-suc-le-zero}
 use native.Mathlib.Numerals.{add-one, one-add}
 use native.Mathlib.Omega.{arith}
 use lib.Arith.{lt-one}
@@ -24,7 +25,7 @@ use Rattle.field.specs.Field.{squared}
 use Rattle.field.specs.Frobenius.{squared-fixes}
 use Rattle.rows.specs.Rows.{comb, Independent}
 use Rattle.rows.specs.Bits.{bitOf}
-use Rattle.rows.specs.Sharing.{bitOf-lt, bitOf-⊕}
+use Rattle.rows.specs.Sharing.{bitOf-lt, bitOf-⊕, bitOf-zero}
 use Rattle.rows.specs.Linear.{linear-bit}
 use Rattle.normal.specs.TableProduct.{rotate, entry, total, productBit, tableProduct}
 use Rattle.normal.specs.Rotation.{rotateBack, rotateBack-lt, rotate-bit, rotateBack-bit}
@@ -73,6 +74,11 @@ unfolding total
 total-ext zero g h e = refl
 total-ext (suc m) g h e =
     ap₂ _+_ (e 0 (omega arith)) (total-ext m (λ i. g (suc i)) (λ i. h (suc i)) (λ i l. e (suc i) (omega arith)))
+
+pub total-none : (m : ℕ) (g : ℕ → ℕ) → ((i : ℕ) → g i ≡ 0) → total m g ≡ 0
+unfolding total
+total-none zero g none = refl
+total-none (suc m) g none = ap₂ _+_ (none 0) (total-none m (λ i. g (suc i)) (λ i. none (suc i)))
 
 total-double : (m : ℕ) (g h : ℕ → ℕ) → ((k : ℕ) → g k ≡ h k * 2) → total m g ≡ total m h * 2
 unfolding total
@@ -236,6 +242,18 @@ module _ (n : ℕ) (pos : 1 ≤ n) (T : List ℕ) (size : length T ≡ n) (row-l
 -- the product of coordinates is a coordinate number
 pub tableProduct-lt : (n : ℕ) → 1 ≤ n → (T : List ℕ) → length T ≡ n → ((i : ℕ) → i < n → getD T i 0 < 2 ^ n) → (u v : ℕ) → v < 2 ^ n → tableProduct n T u v < 2 ^ n
 tableProduct-lt n pos T size row-lt u v hv = rw (← horner-table n pos T size row-lt u v hv) (hornerProduct-lt n pos T row-lt n u v hv)
+
+-- 0 times a number is 0, through any rows
+zero-bit : (n : ℕ) (T : List ℕ) (v k : ℕ) → productBit n T 0 v k ≡ 0
+unfolding productBit
+zero-bit n T v k =
+    ap (λ (x : ℕ). x % 2)
+    (total-none n (λ i. total n (λ j. bitOf 0 i * bitOf v j * entry T ((j + (n - i)) % n) ((k + (n - i)) % n)))
+    (λ i. total-none n (λ j. bitOf 0 i * bitOf v j * entry T ((j + (n - i)) % n) ((k + (n - i)) % n)) (λ j. rw (bitOf-zero i, zero-mul, zero-mul))))
+
+pub tableProduct-zero : (n : ℕ) (T : List ℕ) (v : ℕ) → tableProduct n T 0 v ≡ 0
+unfolding tableProduct
+tableProduct-zero n T v = total-none n (λ k. productBit n T 0 v k * 2 ^ k) (λ k. rw (zero-bit n T v k, zero-mul))
 
 -- "Bit k of a product of normal coordinates", through the table of a normal element: converted to polynomial notation, the product of
 -- coordinates is the product of elements

@@ -3,20 +3,18 @@
 -- half of k (`power-half-even`, `power-half-odd`); 0 divided is 0 (`quotient-zero`); powers, inverses and quotients are below 2^n (`power-lt`,
 -- `inverse-lt`, `quotient-lt`).
 -- Assumes nothing.
-use mathlib.Core.Path.{_≡_, refl, sym, ap, ap₂, _∙_}
+use mathlib.Core.Path.{_≡_, refl, sym, ap, _∙_}
 use mathlib.Core.Logic.{⊎-elim}
 use mathlib.Core.List.{List}
-use Prim.Native.Nat.{ℕ, zero, suc, _+_, _-_, _*_, _/_, _%_, _^_, _≤_, _<_}
-use native.Mathlib.Nat.{le-refl, zero-mul}
+use Prim.Native.Nat.{ℕ, zero, suc, _-_, _*_, _/_, _%_, _^_, _≤_, _<_}
+use native.Mathlib.Nat.{le-refl}
 use native.Mathlib.Omega.{arith}
 use lib.ListN.{length, getD}
 use borrow.Author.Tests.{le-leb, lt-leb, eq-eqb, ne-eqb}
 use Rattle.gf2.specs.Numbers.{bitCases, mod-two-lt, order}
-use Rattle.rows.specs.Bits.{bitOf}
-use Rattle.rows.specs.Sharing.{bitOf-zero}
-use Rattle.normal.specs.TableProduct.{rotate, rotatedBy, entry, total, productBit, tableProduct}
+use Rattle.normal.specs.TableProduct.{rotate, rotatedBy, tableProduct}
 use Rattle.normal.specs.Rotation.{rotate-lt}
-use Rattle.normal.specs.ProductBits.{tableProduct-lt}
+use Rattle.normal.specs.ProductBits.{tableProduct-lt, tableProduct-zero}
 use Rattle.normal.specs.Powers.{evenPower, oddPower, powerWithin, powerOf, inverseOf, quotientOf}
 
 module _ (n : ℕ) (rows : List ℕ) (a : ℕ) where
@@ -127,21 +125,9 @@ module _ (n : ℕ) (rows : List ℕ) (a : ℕ) where
 
 -- ---- 0 divided, through any rows
 
-total-none : (m : ℕ) (g : ℕ → ℕ) → ((i : ℕ) → g i ≡ 0) → total m g ≡ 0
-unfolding total
-total-none zero g none = refl
-total-none (suc m) g none = ap₂ _+_ (none 0) (total-none m (λ i. g (suc i)) (λ i. none (suc i)))
-
-zero-bit : (n : ℕ) (rows : List ℕ) (b k : ℕ) → productBit n rows 0 b k ≡ 0
-unfolding productBit
-zero-bit n rows b k =
-    ap (λ (x : ℕ). x % 2)
-    (total-none n (λ i. total n (λ j. bitOf 0 i * bitOf b j * entry rows ((j + (n - i)) % n) ((k + (n - i)) % n)))
-    (λ i. total-none n (λ j. bitOf 0 i * bitOf b j * entry rows ((j + (n - i)) % n) ((k + (n - i)) % n)) (λ j. rw (bitOf-zero i, zero-mul, zero-mul))))
-
 pub quotient-zero : (n : ℕ) (rows : List ℕ) (a : ℕ) → quotientOf n rows 0 a ≡ 0
-unfolding quotientOf tableProduct
-quotient-zero n rows a = total-none n (λ k. productBit n rows 0 (inverseOf n rows a) k * 2 ^ k) (λ k. rw (zero-bit n rows (inverseOf n rows a) k, zero-mul))
+unfolding quotientOf
+quotient-zero n rows a = tableProduct-zero n rows (inverseOf n rows a)
 
 -- ---- the numbers are below 2^n
 

@@ -10,7 +10,7 @@
 use mathlib.Core.Path.{_≡_, refl, sym, ap, ap₂, _∙_}
 use mathlib.Core.Logic.{⊎-elim}
 use Prim.Native.Nat.{ℕ, zero, suc, _+_, _-_, _*_, _/_, _%_, _^_, _≤_, _<_}
-use native.Mathlib.Nat.{zero-add, add-zero, add-comm, suc-mul, zero-mul, pow-suc, mod-lt, mod-eq-of-lt, mod-self, mod-add-mod, add-mod-right, not-suc-le-zero}
+use native.Mathlib.Nat.{add-zero, add-comm, suc-mul, zero-mul, pow-suc, mod-lt, mod-eq-of-lt, mod-self, mod-add-mod, add-mod-right, not-suc-le-zero}
 use native.Mathlib.Numerals.{add-one}
 use native.Mathlib.Omega.{arith}
 use lib.Arith.{lt-one}
@@ -26,7 +26,7 @@ use Rattle.rows.specs.Rows.{Independent}
 use Rattle.normal.specs.Normal.{conjugates, coordinates, tableRows, complexity}
 use Rattle.normal.specs.Coordinates.{coordinates-are, tableRows-at, tableRows-length}
 use Rattle.normal.specs.Halves.{total-last, complexity-total, squared-coordinates, ones-rotatedBy}
-use Rattle.normal.specs.ProductBits.{total-ext, bitOf-half, bitOf-first}
+use Rattle.normal.specs.ProductBits.{total-ext, total-none, bitOf-half, bitOf-first}
 use Rattle.normal.specs.TableProduct.{total}
 use Rattle.sheet.specs.Issuing.{based-degree, based-two, based-returns, based-free}
 use Rattle.sheet.specs.Sheets.{Based}
@@ -51,14 +51,9 @@ total-add (suc m) g h =
     let ih : total m (λ i. g (suc i) + h (suc i)) ≡ total m (λ i. g (suc i)) + total m (λ i. h (suc i)) = total-add m (λ i. g (suc i)) (λ i. h (suc i)) in
     omega (arith, ih)
 
-total-zero : (m : ℕ) → total m (λ i. 0) ≡ 0
-unfolding total
-total-zero zero = refl
-total-zero (suc m) = zero-add (total m (λ i. 0)) ∙ total-zero m
-
 total-swap : (m k : ℕ) (g : ℕ → ℕ → ℕ) → total m (λ i. total k (g i)) ≡ total k (λ j. total m (λ i. g i j))
 unfolding total
-total-swap zero k g = sym (total-zero k)
+total-swap zero k g = sym (total-none k (λ j. 0) (λ j. refl))
 total-swap (suc m) k g =
     ap (λ (x : ℕ). total k (g 0) + x) (total-swap m k (λ i. g (suc i))) ∙ sym (total-add k (g 0) (λ j. total m (λ i. g (suc i) j)))
 

@@ -61,15 +61,8 @@ pub fn quotient(sheet: &[u8], dividend: u64, divisor: u64) -> Value {
 #[cfg(test)]
 mod tests {
     use super::*;
+    use crate::sheet::tests::sheet;
     use crate::{build, multiply, times, to_polynomial, MAX_DEGREE, RECORD_LENGTH};
-
-    fn sheet(f: u64, element: u64) -> Vec<u8> {
-        let mut buffer = vec![0; RECORD_LENGTH * MAX_DEGREE as usize];
-        let answer = build(f, element, &mut buffer);
-        assert_eq!(answer.number, 0);
-        buffer.truncate(RECORD_LENGTH * answer.degree as usize);
-        buffer
-    }
 
     fn refused(number: u64, place: u64) -> Value {
         Err(Refusal { number, place }).into()

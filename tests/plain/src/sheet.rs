@@ -167,10 +167,11 @@ pub fn times(sheet: &[u8], a: u64, b: u64) -> Value {
 }
 
 #[cfg(test)]
-mod tests {
+pub(crate) mod tests {
     use super::*;
 
-    fn sheet(f: u64, element: u64) -> Vec<u8> {
+    /// The sheet of f and a normal element.
+    pub(crate) fn sheet(f: u64, element: u64) -> Vec<u8> {
         let mut buffer = vec![0; RECORD_LENGTH * MAX_DEGREE as usize];
         let answer = build(f, element, &mut buffer);
         assert_eq!(answer.number, 0);
