@@ -5,7 +5,7 @@ ghost use Rattle.rows.specs.ByteSums.{bytes, byteSums};
 ghost use Rattle.elements.specs.Reference.{Reference};
 ghost use Rattle.elements.specs.Upper.{upperRows};
 use gf2::LIMIT;
-use gf2::multiply;
+use gf2::multiply_by_x;
 use rows::BYTE_SUMS;
 use rows::byte_sums;
 use rows::power;
@@ -22,7 +22,7 @@ fn upper_rows(sums: &[u64; BYTE_SUMS], f: u64, n: u32) -> [u64; LIMIT]
     let mut i: usize = 0;
     while i < count {
         rows[i] = sum_by_bytes(sums, y);
-        y = multiply(f, n, y, 2);
+        y = multiply_by_x(f, n, y);
         i += 1;
     }
     rows

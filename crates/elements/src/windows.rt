@@ -5,7 +5,7 @@ ghost use Prim.Native.Nat.{ℕ, _+_, _^_, _≤_, _<_};
 ghost use Rattle.gf2.specs.Poly.{mulMod, Degree};
 ghost use Rattle.elements.specs.Multiples.{multiplesOf};
 ghost use Rattle.elements.specs.Windows.{roomy, fourWindows, Unreduced};
-use gf2::multiply;
+use gf2::multiply_by_x;
 use rows::power;
 
 // A polynomial of degree below 2n: low + high x^n.
@@ -19,9 +19,9 @@ pub fn multiples(f: u64, n: u32, a: u64) -> [u64; 16]
     requires { ⌜ (n < 64) × Degree f n × (a < 2 ^ n) ⌝ }
     ensures { λ r. ⌜ r ≡ multiplesOf f n a ⌝ }
 {
-    let b = multiply(f, n, a, 2);
-    let c = multiply(f, n, a, 4);
-    let d = multiply(f, n, a, 8);
+    let b = multiply_by_x(f, n, a);
+    let c = multiply_by_x(f, n, b);
+    let d = multiply_by_x(f, n, c);
     let ab = b ^ a;
     let cd = d ^ c;
     [

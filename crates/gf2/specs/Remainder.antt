@@ -28,11 +28,11 @@ reduce-large f n y h = rw (le-ltb y (2 ^ n) h)
 top-one : (n y : ℕ) → 2 ^ n ≤ y → y < 2 ^ n * 2 → y / 2 ^ n ≡ 1
 top-one n y l h = div-eq-of-lt-le {k = 1} (2 ^ n) (omega arith) (omega arith)
 
-top-lt : (n y : ℕ) → y < 2 ^ n * 2 → y / 2 ^ n < 2
+pub top-lt : (n y : ℕ) → y < 2 ^ n * 2 → y / 2 ^ n < 2
 top-lt n y h = div-lt-iff-lt-mul (pow-pos n) .1 (omega arith)
 
 -- the highest coefficient times f is taken away
-reduce-is : (f n y : ℕ) → y < 2 ^ n * 2 → reduce f n y ≡ y ⊕ (y / 2 ^ n) * f
+pub reduce-is : (f n y : ℕ) → y < 2 ^ n * 2 → reduce f n y ≡ y ⊕ (y / 2 ^ n) * f
 reduce-is f n y h = go (order y (2 ^ n))
   where
     go : (y < 2 ^ n) ⊎ (2 ^ n ≤ y) → reduce f n y ≡ y ⊕ (y / 2 ^ n) * f

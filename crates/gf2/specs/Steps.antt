@@ -9,8 +9,8 @@ use lib.Pow.{shr-shr, split}
 use Rattle.gf2.specs.Poly.{_⊕_, reduce, rem, mulMod, spread, Degree}
 use Rattle.gf2.specs.Numbers.{bitCases, pow-next, mod-two-lt}
 use Rattle.gf2.specs.Sum.{⊕-lt, ⊕-assoc}
-use Rattle.gf2.specs.Product.{spread-parts}
-use Rattle.gf2.specs.Remainder.{reduce-lt, rem-double, mulMod-step}
+use Rattle.gf2.specs.Product.{product-power, spread-parts}
+use Rattle.gf2.specs.Remainder.{reduce-lt, rem-small, rem-double, mulMod-step}
 
 pub bit-mul-lt : (d x m : ℕ) → d < 2 → x < m → d * x < m
 bit-mul-lt d x m h l = ⊎-elim (λ (e : d ≡ 0). rw (e, zero-mul) (omega arith)) (λ (e : d ≡ 1). rw (e, one-mul) l) (bitCases d h)
@@ -18,6 +18,11 @@ bit-mul-lt d x m h l = ⊎-elim (λ (e : d ≡ 0). rw (e, zero-mul) (omega arith
 -- ---- the product
 
 module _ (f n : ℕ) (deg : Degree f n) where
+  -- the product by x
+  pub mulMod-two : (a : ℕ) → a < 2 ^ n → mulMod f n a 2 ≡ reduce f n (a * 2)
+  unfolding mulMod
+  mulMod-two a h = rw (product-power a 1, rem-double f n deg a, rem-small f n a h)
+
   -- the sum so far and the product of what is left make the product
   pub mulMod-turn : (sum a rest m sum′ a′ : ℕ)
       → (sum < 2 ^ n) × (a < 2 ^ n) × (sum ⊕ mulMod f n a rest ≡ m)

@@ -11,5 +11,6 @@ pub use degree::degree_of;
 pub use division::picked;
 pub use euclid::greatest_common;
 pub use multiplication::multiply;
+pub use multiplication::multiply_by_x;
 pub use spread::spread_table;
 pub use squaring::square;

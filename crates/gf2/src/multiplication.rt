@@ -5,6 +5,15 @@ ghost use Rattle.gf2.specs.Poly.{mulMod, Element};
 use super::division::picked;
 use super::division::times_x;
 
+// x times a modulo f, of degree n: a is moved up one place, and if that brings up x^n, adding f takes it away.
+pub fn multiply_by_x(f: u64, n: u32, a: u64) -> u64
+    requires { ⌜ Element f n a ⌝ }
+    ensures { λ r. ⌜ r ≡ mulMod f n a 2 ⌝ }
+{
+    let moved = a << 1;
+    moved ^ picked(moved >> n, f)
+}
+
 // The product of a and b modulo f, of degree n: at each coefficient of b, a times the power of x that stands there.
 pub fn multiply(f: u64, n: u32, a: u64, b: u64) -> u64
     requires { ⌜ Element f n a ⌝ }

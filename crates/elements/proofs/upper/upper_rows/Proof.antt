@@ -48,8 +48,8 @@ mul-rows c = search needs
 array-write-rows : tie.Need-array-write-rows Inv-loop μ-loop
 array-write-rows c = search needs
 
-multiply-requires : tie.Need-multiply-requires Inv-loop μ-loop
-multiply-requires c κs =
+multiply-by-x-requires : tie.Need-multiply-by-x-requires Inv-loop μ-loop
+multiply-by-x-requires c κs =
     let l = c .before .before in
     let s = l .before .before in
     record { is-degree = s .pre .of-field .is-degree; below = rw (l .loop .inv .2) (rem-lt (s .args .f) (s .args .n) (s .pre .of-field .is-degree) _) }
@@ -70,7 +70,7 @@ loop-again c =
       omega (arith, b .before .loop-test .taken),
       filled-turn (l .loop .rows) (l .loop .i) (b .sum-by-bytes .result) (row f n (s .args .sums .now)) (omega (arith, b .before .loop-test .taken, s .pre .of-field .most))
           (b .sum-by-bytes .ensures ∙ ap (through (s .args .sums .now)) (l .loop .inv .2)) (l .loop .inv .1),
-      next-power f n (s .pre .of-field .is-degree) (l .loop .i) (l .loop .y) (c .multiply .result) (l .loop .inv .2) (c .multiply .ensures),
+      next-power f n (s .pre .of-field .is-degree) (l .loop .i) (l .loop .y) (c .multiply-by-x .result) (l .loop .inv .2) (c .multiply-by-x .ensures),
     )
 
 returns : tie.Need-returns Inv-loop μ-loop
@@ -91,7 +91,7 @@ upper-rows-spec =
     sum-by-bytes-requires
     mul-rows
     array-write-rows
-    multiply-requires
+    multiply-by-x-requires
     add-i
     loop-less
     loop-again
