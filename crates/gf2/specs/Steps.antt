@@ -1,21 +1,33 @@
--- One turn of each loop over coefficients, as laws on numbers: of the product, of the remainder, one more byte of a spread.
+-- One turn of each loop over coefficients, as laws on numbers: of the product, from the top coefficient down, with the product by x; of the
+-- remainder; one more byte of a spread.
 -- Assumes nothing.
 use mathlib.Core.Path.{_≡_, sym, ap, ap₂, _∙_}
 use mathlib.Core.Logic.{⊎-elim}
 use Prim.Native.Nat.{ℕ, _+_, _-_, _*_, _/_, _%_, _^_, _≤_, _<_}
 use native.Mathlib.Nat.{zero-mul, one-mul, sub-add-cancel, mul-assoc}
 use native.Mathlib.Omega.{arith}
-use lib.Pow.{shr-shr, split}
-use Rattle.gf2.specs.Poly.{_⊕_, reduce, rem, mulMod, spread, Degree}
-use Rattle.gf2.specs.Numbers.{bitCases, pow-next, mod-two-lt}
-use Rattle.gf2.specs.Sum.{⊕-lt, ⊕-assoc}
-use Rattle.gf2.specs.Product.{product-power, spread-parts}
-use Rattle.gf2.specs.Remainder.{reduce-lt, rem-small, rem-double, mulMod-step}
+use lib.Pow.{shl-shr, shr-shr, field, split}
+use Rattle.gf2.specs.Poly.{_⊕_, product, reduce, rem, mulMod, spread, Degree}
+use Rattle.gf2.specs.Numbers.{bitCases, pow-next}
+use Rattle.gf2.specs.Sum.{⊕-comm}
+use Rattle.gf2.specs.Product.{product-double-l, product-power, spread-parts}
+use Rattle.gf2.specs.Remainder.{rem-small, rem-double, rem-product-l, mulMod-step}
 
 pub bit-mul-lt : (d x m : ℕ) → d < 2 → x < m → d * x < m
 bit-mul-lt d x m h l = ⊎-elim (λ (e : d ≡ 0). rw (e, zero-mul) (omega arith)) (λ (e : d ≡ 1). rw (e, one-mul) l) (bitCases d h)
 
 -- ---- the product
+
+-- rest is b moved up by i in its word, so that the coefficient of x ^ k stands at the top
+pub top-coefficient : (b i k rest : ℕ) → i + k ≡ 63 → rest ≡ b * 2 ^ i % 2 ^ 64 → rest / 2 ^ 63 ≡ b / 2 ^ k % 2
+top-coefficient b i k rest s e =
+    let q : b * 2 ^ i / 2 ^ 63 ≡ b / 2 ^ k =
+    ap (λ (m : ℕ). b * 2 ^ i / 2 ^ m) (sym s) ∙ sym (shr-shr (b * 2 ^ i) i k) ∙ ap (λ (x : ℕ). x / 2 ^ k) (shl-shr b i) in
+    rw e (field (b * 2 ^ i) 1 63) ∙ ap (λ (x : ℕ). x % 2) q
+
+-- moved up once more, the next one stands there
+pub rest-turn : (b i rest : ℕ) → rest ≡ b * 2 ^ i % 2 ^ 64 → rest * 2 % 2 ^ 64 ≡ b * 2 ^ (i + 1) % 2 ^ 64
+rest-turn b i rest e = rw (e, pow-next, ← mul-assoc) (omega arith)
 
 module _ (f n : ℕ) (deg : Degree f n) where
   -- the product by x
@@ -23,16 +35,20 @@ module _ (f n : ℕ) (deg : Degree f n) where
   unfolding mulMod
   mulMod-two a h = rw (product-power a 1, rem-double f n deg a, rem-small f n a h)
 
-  -- the sum so far and the product of what is left make the product
-  pub mulMod-turn : (sum a rest m sum′ a′ : ℕ)
-      → (sum < 2 ^ n) × (a < 2 ^ n) × (sum ⊕ mulMod f n a rest ≡ m)
-      → sum′ ≡ sum ⊕ (rest % 2) * a → a′ ≡ reduce f n (a * 2)
-      → (sum′ < 2 ^ n) × (a′ < 2 ^ n) × (sum′ ⊕ mulMod f n a′ (rest / 2) ≡ m)
-  mulMod-turn sum a rest m sum′ a′ inv p q = (
-    rw p (⊕-lt n sum (rest % 2 * a) (inv .0) (bit-mul-lt (rest % 2) a (2 ^ n) (mod-two-lt rest) (inv .1))),
-    rw q (reduce-lt f n deg (a * 2) (omega (arith, inv .1))),
-    rw (p, q, ⊕-assoc) (ap (λ (x : ℕ). sum ⊕ x) (sym (mulMod-step f n deg a rest (inv .1))) ∙ inv .2),
-  )
+  -- x times a product is the product of x times a
+  mulMod-double-l : (a b : ℕ) → a < 2 ^ n → mulMod f n (reduce f n (a * 2)) b ≡ reduce f n (mulMod f n a b * 2)
+  unfolding mulMod
+  mulMod-double-l a b h =
+      rw (← rem-double f n deg (product a b), ← product-double-l a b, ← rem-product-l f n deg (a * 2) b, rem-double f n deg a, rem-small f n a h)
+
+  -- sum is the product of a and what stands from k upward in b; x times sum, and a where the next coefficient is set, is that of a and
+  -- what stands from k - 1 upward
+  pub mulMod-turn : (a b k sum sum′ : ℕ) → a < 2 ^ n → 1 ≤ k → sum ≡ mulMod f n a (b / 2 ^ k)
+      → sum′ ≡ reduce f n (sum * 2) ⊕ (b / 2 ^ (k - 1) % 2) * a → sum′ ≡ mulMod f n a (b / 2 ^ (k - 1))
+  mulMod-turn a b k sum sum′ h one p q =
+      let c : ℕ = b / 2 ^ (k - 1) in
+      let half : b / 2 ^ k ≡ c / 2 = sym (shr-shr b (k - 1) 1 ∙ ap (λ (x : ℕ). b / 2 ^ x) (sub-add-cancel one)) in
+      rw (q, p, half, ← mulMod-double-l a (c / 2) h) (⊕-comm _ _ ∙ sym (mulMod-step f n deg a c h))
 
   -- ---- the walk of the remainder
 

@@ -1,11 +1,13 @@
-// Multiplication modulo a polynomial, from the low coefficient of the second operand up. The multiples of the first are kept
-// at the top of the word, for `times_x`.
+// Multiplication modulo a polynomial: by x, and by any polynomial, whose coefficients are taken from the top down as the multiplier cell
+// takes them.
 ghost use mathlib.Core.Path.{_≡_};
-ghost use Rattle.gf2.specs.Poly.{mulMod, Element};
+ghost use Rattle.gf2.specs.Poly.{rem, mulMod, Degree, Element};
 use super::division::picked;
+use super::division::remainder;
 use super::division::times_x;
 
-// x times a modulo f, of degree n: a is moved up one place, and if that brings up x^n, adding f takes it away.
+// x times a modulo f, of degree n: a is moved up one place, and if that brings up x^n, adding f takes it away. It is one step, and
+// `multiply` takes n turns.
 pub fn multiply_by_x(f: u64, n: u32, a: u64) -> u64
     requires { ⌜ Element f n a ⌝ }
     ensures { λ r. ⌜ r ≡ mulMod f n a 2 ⌝ }
@@ -14,7 +16,18 @@ pub fn multiply_by_x(f: u64, n: u32, a: u64) -> u64
     moved ^ picked(moved >> n, f)
 }
 
-// The product of a and b modulo f, of degree n: at each coefficient of b, a times the power of x that stands there.
+// b modulo f. An element is returned as it is, so that no turn is spent on it.
+fn element_of(f: u64, n: u32, b: u64) -> u64
+    requires { ⌜ Degree f n ⌝ }
+    ensures { λ r. ⌜ r ≡ rem f n b ⌝ }
+{
+    if b >> n == 0 {
+        return b;
+    }
+    remainder(f, n, 64, b)
+}
+
+// The product of a and b modulo f, of degree n. The first operand and the sum are kept at the top of the word, for `times_x`.
 pub fn multiply(f: u64, n: u32, a: u64, b: u64) -> u64
     requires { ⌜ Element f n a ⌝ }
     ensures { λ r. ⌜ r ≡ mulMod f n a b ⌝ }
@@ -22,13 +35,19 @@ pub fn multiply(f: u64, n: u32, a: u64, b: u64) -> u64
     // The top term of f leaves the word. For n = 0, where a shift by 64 is not allowed, a is 0 and may stay.
     let k = (64 - n) % 64;
     let low = f << k;
+    let high = a << k;
+    let mut rest = element_of(f, n, b) << k;
+    let mut added = picked(rest >> 63, high);
     let mut sum: u64 = 0;
-    let mut shifted = a << k;
-    let mut rest = b;
-    while rest != 0 {
-        sum = sum ^ picked(rest % 2, shifted);
-        shifted = times_x(low, shifted);
-        rest = rest / 2;
+    let mut left = n;
+    // The coefficients of x^(n-1), x^(n-2), .. , x^0, one a turn: the sum is multiplied by x, and a is added if the coefficient is set.
+    // After each turn sum >> k is the cell's partial sum. What a turn adds is made one turn ahead, so that the compiler keeps it off the
+    // path from sum to sum.
+    while left > 0 {
+        sum = times_x(low, sum) ^ added;
+        rest = rest << 1;
+        added = picked(rest >> 63, high);
+        left -= 1;
     }
     sum >> k
 }
