@@ -1,9 +1,10 @@
 -- Squaring k times in a row is additive and multiplicative (Frobenius), for every f; what leaves x leaves every element; the
--- k-th conjugate is the power with exponent 2 ^ k. `squared-start`, `squared-turn`: where a loop that squares starts, and one turn of it.
+-- k-th conjugate is the power with exponent 2 ^ k; a power by the bits of its exponent; a power of a conjugate is the conjugate of the
+-- power. `squared-start`, `squared-turn`: where a loop that squares starts, and one turn of it.
 -- Assumes nothing.
 use mathlib.Core.Path.{_≡_, refl, sym, ap, ap₂, _∙_}
 use mathlib.Core.Logic.{⊎-elim}
-use Prim.Native.Nat.{ℕ, zero, suc, _+_, _*_, _/_, _%_, _^_, _≤_, _<_}
+use Prim.Native.Nat.{ℕ, zero, suc, _+_, _-_, _*_, _/_, _%_, _^_, _≤_, _<_}
 use native.Mathlib.Nat.{pow-suc, zero-add, suc-add}
 use native.Mathlib.Numerals.{add-one}
 use native.Mathlib.Omega.{arith}
@@ -82,6 +83,12 @@ module _ (f n : ℕ) (deg : Degree f n) where
         ∙ ap₂ _⊕_ (ap (squared f n k) (sym (by-x (m / 2) b)) ∙ squared-mulMod k 2 (m / 2) ∙ rw (e, ih (omega arith)) (by-x (m / 2) b)) (squared-bit k (m % 2) (mod-two-lt m))
         ∙ low-apart m)
 
+    -- squaring on to n times undoes i squarings
+    pub squared-undone : squared f n n 2 ≡ 2 → (i : ℕ) → i ≤ n → (a b : ℕ) → a < 2 ^ n → squared f n i a ≡ b → a ≡ squared f n (n - i) b
+    squared-undone returns i hi a b h e =
+        let s : n - i + i ≡ n = omega arith in
+        sym (squared-fixes n returns a h) ∙ ap (λ (k : ℕ). squared f n k a) (sym s) ∙ squared-add (n - i) i a ∙ ap (squared f n (n - i)) e
+
     -- ---- powers
 
     pub powMod-lt : (a e : ℕ) → powMod f n a e < 2 ^ n
@@ -101,6 +108,24 @@ module _ (f n : ℕ) (deg : Degree f n) where
         let t : suc e * 2 ≡ suc (suc (e * 2)) = omega arith in
         ap (mulMod f n (mulMod f n a a)) (powMod-square a e) ∙ mulMod-assoc f n deg a a (powMod f n a (e * 2)) ∙ sym (ap (powMod f n a) t)
 
+    -- a power by the bits of its exponent, on its way: y times the power of a with exponent e is the same after a turn, whether the lowest
+    -- bit of e picks a or passes it by
+    pub powMod-picked : (y a e : ℕ) → e % 2 ≡ 1 → mulMod f n (mulMod f n y a) (powMod f n (mulMod f n a a) (e / 2)) ≡ mulMod f n y (powMod f n a e)
+    unfolding powMod
+    powMod-picked y a e h =
+        let s : suc (e / 2 * 2) ≡ e = omega arith in
+        mulMod-assoc f n deg y a (powMod f n (mulMod f n a a) (e / 2))
+        ∙ ap (mulMod f n y) (ap (mulMod f n a) (powMod-square a (e / 2)) ∙ ap (powMod f n a) s)
+
+    pub powMod-passed : (y a e : ℕ) → (e % 2 ≡ 1 → ⊥) → mulMod f n y (powMod f n (mulMod f n a a) (e / 2)) ≡ mulMod f n y (powMod f n a e)
+    powMod-passed y a e h =
+        let s : e / 2 * 2 ≡ e = omega (arith, h) in
+        ap (mulMod f n y) (powMod-square a (e / 2) ∙ ap (powMod f n a) s)
+
+    pub powMod-finished : (y a : ℕ) → y < 2 ^ n → mulMod f n y (powMod f n a 0) ≡ y
+    unfolding powMod
+    powMod-finished y a h = mulMod-comm f n deg y 1 ∙ mulMod-one-l f n deg y h
+
     powMod-one : (a : ℕ) → a < 2 ^ n → powMod f n a 1 ≡ a
     unfolding powMod
     powMod-one a h = mulMod-comm f n deg a 1 ∙ mulMod-one-l f n deg a h
@@ -110,3 +135,10 @@ module _ (f n : ℕ) (deg : Degree f n) where
     unfolding squared
     powMod-squared zero a h = powMod-one a h
     powMod-squared (suc k) a h = rw pow-suc (sym (powMod-square a (2 ^ k)) ∙ powMod-squared k (mulMod f n a a) (mulMod-lt f n deg a a))
+
+    -- the power of a conjugate is the conjugate of the power
+    pub powMod-conjugate : (k a e : ℕ) → powMod f n (squared f n k a) e ≡ squared f n k (powMod f n a e)
+    unfolding powMod
+    powMod-conjugate k a zero = sym (squared-one k)
+    powMod-conjugate k a (suc e) =
+        ap (mulMod f n (squared f n k a)) (powMod-conjugate k a e) ∙ sym (squared-mulMod k a (powMod f n a e))
