@@ -1,4 +1,4 @@
--- What the calls hand out, by document 01's numbers: field for field what its reports say.
+-- What the calls hand out, by the documents' numbers: field for field what the reports say.
 --
 --   deskValue p      a report of one value: check, multiply, square, trace, the conversions, times
 --   deskIssued p     that of a built or read sheet

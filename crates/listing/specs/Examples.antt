@@ -6,14 +6,14 @@ use Prim.Native.Nat.{ℕ, _+_}
 use lib.Count.{ones, onesIn}
 use Rattle.gf2.specs.Poly.{_⊕_, digitsFrom, digits, product, degree, reduce, rem, mulMod, divides}
 use Rattle.gf2.specs.Bounded.{some, first}
-use Rattle.field.specs.Field.{squared}
+use Rattle.field.specs.Field.{squared, powMod}
 use Rattle.field.specs.Accepted.{degreeOutside, divided, strays}
 use Rattle.refusals.specs.Verdicts.{firstOf}
 use Rattle.refusals.specs.Answers.{answerOf}
 use Rattle.field.specs.Refusals.{tooLarge}
 use Rattle.rows.specs.Rows.{comb, independent}
 use Rattle.normal.specs.Normal.{conjugatesFrom, conjugates, normal, coordinates, listed, inverseRows, tableRows, complexity}
-use Rattle.normal.specs.Grades.{prime, gradeOf, gradeNumber}
+use Rattle.normal.specs.Grades.{kindOf, gradeOf, gradeNumber}
 use Rattle.sheet.specs.Record.{bytesOf, numberIn, recordBytes, recordsTo, sheetBytes, columnIn, recordAt}
 use Rattle.sheet.specs.Orders.{badLength, misplaced, oversized, recordRules, same, differRules}
 use Rattle.sheet.specs.Answers.{summaryOf, readAnswer}
@@ -31,7 +31,7 @@ fourDigits i c v t = digit i ∷ space ∷ digit c ∷ space ∷ digit v ∷ spa
 pub of-eleven-and-three : listingOf (sheetBytes 11 3 3)
     ≡ fourDigits 0 3 7 2 ++ fourDigits 1 5 6 5 ++ fourDigits 2 7 5 6
     ++ (99 ∷ 111 ∷ 109 ∷ 112 ∷ 108 ∷ 101 ∷ 120 ∷ 105 ∷ 116 ∷ 121 ∷ 32 ∷ 53 ∷ 32 ∷ 103 ∷ 114 ∷ 97 ∷ 100 ∷ 101 ∷ 32 ∷ 50 ∷ 10 ∷ [])
-unfolding listingOf listingBy rowLines rowLine lastLine complexityWord gradeWord numberThen decimal placesBy readAnswer answerOf summaryOf firstOf badLength misplaced oversized recordRules same differRules recordAt tooLarge columnIn numberIn bytesOf recordBytes recordsTo sheetBytes degreeOutside divided strays divides degree some first normal independent conjugates conjugatesFrom squared inverseRows tableRows listed coordinates comb mulMod rem reduce product digits digitsFrom _⊕_ complexity ones onesIn gradeOf gradeNumber prime
+unfolding listingOf listingBy rowLines rowLine lastLine complexityWord gradeWord numberThen decimal placesBy readAnswer answerOf summaryOf firstOf badLength misplaced oversized recordRules same differRules recordAt tooLarge columnIn numberIn bytesOf recordBytes recordsTo sheetBytes degreeOutside divided strays divides degree some first normal independent conjugates conjugatesFrom squared inverseRows tableRows listed coordinates comb mulMod rem reduce product digits digitsFrom _⊕_ complexity ones onesIn gradeOf kindOf gradeNumber powMod
 of-eleven-and-three = refl
 
 -- "refused 7 0"

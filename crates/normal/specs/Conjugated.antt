@@ -11,7 +11,7 @@ use Rattle.gf2.specs.Poly.{_⊕_, mulMod, Degree}
 use Rattle.gf2.specs.Sum.{⊕-comm, ⊕-low}
 use Rattle.field.specs.Field.{squared, traceTo, trace, Irreducible}
 use Rattle.field.specs.Ring.{mulMod-lt}
-use Rattle.field.specs.Frobenius.{squared-lt, squared-zero, squared-add, squared-mulMod, squared-fixes}
+use Rattle.field.specs.Frobenius.{squared-lt, squared-zero, squared-add, squared-mulMod, squared-undone}
 use Rattle.field.specs.Trace.{trace-bit}
 use Rattle.field.specs.ConjugateSums.{conjugateSum, conjugateSum-zero, conjugateSum-⊕, conjugateSum-power}
 use Rattle.rows.specs.Rows.{comb, Independent}
@@ -23,12 +23,8 @@ module _ (f n : ℕ) (deg : Degree f n) (big : 2 ≤ n) (returns : squared f n n
   -- ---- every conjugate
 
   module _ (i : ℕ) (hi : i ≤ n) where
-    -- squaring on to n times undoes i squarings
     squared-kernel : (x : ℕ) → x < 2 ^ n → squared f n i x ≡ 0 → x ≡ 0
-    squared-kernel x h e =
-        let s : n - i + i ≡ n = omega arith in
-        sym (squared-fixes f n deg big n returns x h) ∙ ap (λ (k : ℕ). squared f n k x) (sym s) ∙ squared-add f n deg (n - i) i x
-        ∙ ap (squared f n (n - i)) e ∙ squared-zero f n deg (n - i)
+    squared-kernel x h e = squared-undone f n deg big returns i hi x 0 h e ∙ squared-zero f n deg (n - i)
 
     pub conjugate-normal : Independent (conjugates f n a) n → Independent (conjugates f n (squared f n i a)) n
     conjugate-normal free v p h e =

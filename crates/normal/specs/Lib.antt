@@ -10,6 +10,7 @@ pub mod Coordinates
 pub mod Products
 pub mod ProductBits
 pub mod Conjugated
+pub mod Graded
 pub mod Filling
 pub mod Turns
 pub mod Summed

@@ -1,11 +1,10 @@
--- One turn of each loop over rows and coordinates, as laws on numbers and lists: the list of conjugates, the count of ones, the test
--- for a prime, rotations in a row, the product by turns.
+-- One turn of each loop over rows and coordinates, as laws on numbers and lists: the list of conjugates, the count of ones,
+-- rotations in a row, the product by turns.
 --
 --   Taken n T a b product turned i   what the loop of a product through the rows T holds, with the bits of a from i upward taken
 --
 -- Assumes nothing.
 use mathlib.Core.Path.{_≡_, sym, ap, ap₂, _∙_}
-use mathlib.Core.Bool.{Bool, true, false, _&&_}
 use mathlib.Core.List.{List, [], _∷_, _++_}
 use Prim.Native.Nat.{ℕ, zero, suc, _+_, _-_, _*_, _/_, _%_, _^_, _≤_, _<_}
 use native.Mathlib.Nat.{div-one, add-zero, zero-add, zero-mul, add-assoc, suc-mul, mod-lt, mod-eq-of-lt, mod-add-mod, add-mul-mod-self-right, mul-comm, sub-add-cancel}
@@ -13,22 +12,16 @@ use native.Mathlib.Numerals.{add-one}
 use native.Mathlib.Omega.{arith}
 use lib.Bits.{bitXor}
 use lib.Count.{ones}
-use lib.Dec.{ltb, eqb}
 use lib.ListN.{length, getD, take}
 use lib.Pow.{shr-shr}
 use lib.Seq.{ext-getD, take-suc}
-use borrow.Author.Tests.{lt-ltb, ltb-true, eq-eqb, eqb-true}
 use Rattle.gf2.specs.Poly.{_⊕_}
 use Rattle.gf2.specs.Sum.{⊕-comm}
-use Rattle.gf2.specs.Bounded.{some}
-use Rattle.gf2.specs.Existence.{some-means, none-means}
 use Rattle.field.specs.Field.{squared}
 use Rattle.rows.specs.Rows.{comb}
 use Rattle.rows.specs.Bits.{bitOf}
-use Rattle.gf2.specs.Truth.{and-both, and-parts}
 use Rattle.normal.specs.Normal.{conjugates, listed, complexity}
 use Rattle.normal.specs.TableProduct.{rotate, rotatedBy, tableProduct}
-use Rattle.normal.specs.Grades.{prime}
 use Rattle.normal.specs.Rotation.{rotate-lt, rotateBack-rotate, rotate-bit}
 use Rattle.normal.specs.Selected.{conjugates-at, conjugates-length}
 use Rattle.normal.specs.Coordinates.{listed-at, listed-length}
@@ -52,25 +45,6 @@ complexity-append (x ∷ l) r = ap (λ (k : ℕ). ones x + k) (complexity-append
 
 pub complexity-turn : (rows : List ℕ) (i : ℕ) → i < length rows → complexity (take (i + 1) rows) ≡ complexity (take i rows) + ones (getD rows i 0)
 complexity-turn rows i h = rw (add-one, take-suc rows i 0 h) (complexity-append (take i rows) (getD rows i 0))
-
--- ---- primes
-
-divisor : ℕ → ℕ → Bool
-divisor p d = ltb 1 d && eqb (p % d) 0
-
-pub prime-false : (p d : ℕ) → 1 < p → 1 < d → d < p → p % d ≡ 0 → false ≡ prime p
-unfolding prime divisor
-prime-false p d hp hd l e =
-    let s : some p (divisor p) ≡ true = some-means p (divisor p) .1 (d, l, and-both (ltb 1 d) (eqb (p % d) 0) (lt-ltb 1 d hd) (eq-eqb (p % d) 0 e)) in
-    sym (rw (lt-ltb 1 p hp, s))
-
-pub prime-true : (p : ℕ) → 1 < p → ((d : ℕ) → 1 < d → d < p → p % d ≡ 0 → ⊥) → true ≡ prime p
-unfolding prime divisor
-prime-true p hp none =
-    let s : some p (divisor p) ≡ false = none-means p (divisor p) .1 (λ d l e.
-    let b = and-parts (ltb 1 d) (eqb (p % d) 0) e in
-    none d (ltb-true 1 d (b .0)) l (eqb-true (p % d) 0 (b .1))) in
-    sym (rw (lt-ltb 1 p hp, s))
 
 -- ---- rotations in a row
 

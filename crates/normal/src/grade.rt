@@ -1,17 +1,20 @@
-// The complexity and the grade of a basis (document 01, "What a sheet holds").
+// The complexity of a basis (document 01, "What a sheet holds") and its grade (document 02, §3).
 ghost use mathlib.Core.Path.{_≡_};
-ghost use Prim.Native.Nat.{_≤_, _<_};
+ghost use Prim.Native.Nat.{_≤_};
 ghost use lib.ListN.{take};
 ghost use Rattle.gf2.specs.Limit.{limit};
+ghost use Rattle.field.specs.Accepted.{Operand};
 ghost use Rattle.normal.specs.Normal.{complexity};
-ghost use Rattle.normal.specs.Grades.{prime, gradeOf, gradeNumber};
+ghost use Rattle.normal.specs.Grades.{kindOf, gradeOf, gradeNumber};
+use field::element_power;
 use gf2::LIMIT;
 
-// Document 01's grades 0, 1 and 2.
+// The grades 0 to 3 (document 02, §3): not optimal, optimal of the first kind, of the second kind, of both.
 pub enum Grade {
     Zero,
     One,
     Two,
+    Three,
 }
 
 // The number of ones in the first n rows.
@@ -28,37 +31,33 @@ pub fn complexity_of(rows: [u64; LIMIT], n: usize) -> u32
     sum
 }
 
-// Whether no number from 2 to p - 1 divides p.
-fn is_prime(p: u32) -> bool
-    requires { ⌜ 1 < p ⌝ }
-    ensures { λ r. ⌜ r ≡ prime p ⌝ }
+// Which kind of optimal basis the element a makes: of the first kind exactly if a to the power n + 1 is 1. At degree 2 it is of both.
+fn kind_of(f: u64, n: u32, a: u64) -> Grade
+    requires { ⌜ Operand f n a ⌝ }
+    ensures { λ r. ⌜ r ≡ kindOf f n a ⌝ }
 {
-    let mut d: u32 = 2;
-    while d < p {
-        if p % d == 0 {
-            return false;
-        }
-        d += 1;
+    if n == 2 {
+        return Grade::Three;
     }
-    true
-}
-
-// The grade at degree n.
-pub fn grade_of(n: u32, complexity: u32) -> Grade
-    requires { ⌜ (2 ≤ n) × (n ≤ limit) ⌝ }
-    ensures { λ r. ⌜ r ≡ gradeOf n complexity ⌝ }
-{
-    if complexity != 2 * n - 1 {
-        return Grade::Zero;
-    }
-    if is_prime(n + 1) {
+    if element_power(f, n, a, n + 1) == 1 {
         Grade::One
     } else {
         Grade::Two
     }
 }
 
-// Document 01's number of a grade.
+// The grade of the basis of a, whose table has so many ones. Few elements are optimal, and the power is made for these alone.
+pub fn grade_of(f: u64, n: u32, a: u64, complexity: u32) -> Grade
+    requires { ⌜ Operand f n a ⌝ }
+    ensures { λ r. ⌜ r ≡ gradeOf f n a complexity ⌝ }
+{
+    if complexity != 2 * n - 1 {
+        return Grade::Zero;
+    }
+    kind_of(f, n, a)
+}
+
+// The documents' number of a grade.
 pub fn grade_number(grade: Grade) -> u64
     ensures { λ r. ⌜ r ≡ gradeNumber grade ⌝ }
 {
@@ -66,5 +65,6 @@ pub fn grade_number(grade: Grade) -> u64
         Grade::Zero => 0,
         Grade::One => 1,
         Grade::Two => 2,
+        Grade::Three => 3,
     }
 }

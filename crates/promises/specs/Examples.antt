@@ -1,5 +1,5 @@
--- The small numbers of document 01 ("Small numbers to hold it against"), of what the calls answer; and those of division (document 02, §1),
--- of its definitions on rows that are written out.
+-- The small numbers of document 01 ("Small numbers to hold it against"), of what the calls answer; those of division (document 02, §1), of its
+-- definitions on rows that are written out; and those of grades (§3).
 --
 --   Issued, Refused, Converted, Multiplied, Rejected   what a line says of the calls
 --   examples          the twelve lines marked P, in one table
@@ -7,6 +7,7 @@
 --   inverses          all inverses on the sheets of 7 and 2, of 11 and 3, and of 19 and 8, whose tables `examples` has
 --   quotients         on these, every quotient times its divisor is the dividend, by conversion and the product modulo f
 --   factors-in-order  on tables that no builder writes: which factor stands first
+--   second-kind, both-kinds, cubes   grades at degrees 6 and 18, and why degree 2 has one of its own
 --
 -- Assumes nothing.
 use mathlib.Core.Path.{_≡_, refl}
@@ -18,7 +19,7 @@ use lib.Dec.{ltb, eqb}
 use lib.ListN.{drop, replicate}
 use Rattle.gf2.specs.Poly.{_⊕_, digitsFrom, digits, product, degree, reduce, rem, mulMod, divides}
 use Rattle.gf2.specs.Bounded.{some, first}
-use Rattle.field.specs.Field.{squared}
+use Rattle.field.specs.Field.{squared, powMod}
 use Rattle.field.specs.Accepted.{degreeOutside, divided, strays}
 use Rattle.refusals.specs.Verdicts.{firstOf}
 use Rattle.field.specs.Refusals.{tooLarge}
@@ -27,7 +28,7 @@ use Rattle.field.specs.Answers.{checkReport}
 use Rattle.rows.specs.Bits.{bitOf}
 use Rattle.rows.specs.Rows.{comb, independent}
 use Rattle.normal.specs.Normal.{conjugatesFrom, conjugates, normal, coordinates, listed, inverseRows, tableRows, complexity}
-use Rattle.normal.specs.Grades.{prime, gradeOf, gradeNumber}
+use Rattle.normal.specs.Grades.{kindOf, gradeOf, gradeNumber}
 use Rattle.normal.specs.TableProduct.{rotate, rotatedBy, total, productBit, tableProduct}
 use Rattle.normal.specs.Powers.{powerWithin, powerOf, inverseOf, quotientOf}
 use Rattle.sheet.specs.Record.{recordSize, conjugateRowsIn, inverseRowsIn, tableRowsIn, bytesOf, numberIn, recordBytes, recordsTo, sheetBytes, columnIn, rowsIn, recordAt}
@@ -74,9 +75,9 @@ abbrev pub Rejected : (f number : ℕ) → Type 0
 Rejected f k = checkReport f ≡ refused k 0
 
 -- ---- the table: its figures are the document's (the grades of the sheets of 19 stand with its searches), but for the grade of the sheet of
--- 7 and the inverse rows of 19 and 9, which it does not give
+-- 7, which is document 02's (§3), and the inverse rows of 19 and 9, which it does not give
 
-pub examples : Issued 7 2 (2 ∷ 3 ∷ []) (3 ∷ 1 ∷ []) (2 ∷ 3 ∷ []) 3 1
+pub examples : Issued 7 2 (2 ∷ 3 ∷ []) (3 ∷ 1 ∷ []) (2 ∷ 3 ∷ []) 3 3
     × Refused 7 1 5
     × Refused 7 0 5
     × Refused 7 4 4
@@ -88,7 +89,7 @@ pub examples : Issued 7 2 (2 ∷ 3 ∷ []) (3 ∷ 1 ∷ []) (2 ∷ 3 ∷ []) 3 1
     × Issued 19 9 (9 ∷ 13 ∷ 14 ∷ 11 ∷ []) (15 ∷ 9 ∷ 3 ∷ 14 ∷ []) (2 ∷ 11 ∷ 5 ∷ 13 ∷ []) 9 0
     × Rejected 5 2
     × Rejected 3 1
-unfolding buildReport builtBuffer left checkReport polynomialReport normalReport timesReport reportOf issueOf summaryOf toPolynomial toNormal throughTable firstOf badLength misplaced oversized recordRules valueRules tooLarge columnIn numberIn rowsIn bytesOf recordBytes recordsTo sheetBytes degreeOutside divided strays divides degree some first normal independent conjugates conjugatesFrom squared inverseRows tableRows listed coordinates comb mulMod rem reduce product digits digitsFrom _⊕_ complexity ones onesIn gradeOf gradeNumber prime tableProduct productBit total bitOf
+unfolding buildReport builtBuffer left checkReport polynomialReport normalReport timesReport reportOf issueOf summaryOf toPolynomial toNormal throughTable firstOf badLength misplaced oversized recordRules valueRules tooLarge columnIn numberIn rowsIn bytesOf recordBytes recordsTo sheetBytes degreeOutside divided strays divides degree some first normal independent conjugates conjugatesFrom squared inverseRows tableRows listed coordinates comb mulMod rem reduce product digits digitsFrom _⊕_ complexity ones onesIn gradeOf kindOf gradeNumber powMod tableProduct productBit total bitOf
 examples = ((refl, refl, refl, refl), refl, refl, refl, (refl, refl, refl, refl), refl, refl, (refl, refl), (refl, refl, refl, refl), (refl, refl, refl, refl), refl, refl)
 
 -- ---- the line on the sheet file
@@ -128,3 +129,20 @@ quotients = (refl, refl, refl)
 pub factors-in-order : (inverseOf 3 (0 ∷ 0 ∷ 1 ∷ []) 1 ≡ 4) × (inverseOf 4 (0 ∷ 0 ∷ 0 ∷ 1 ∷ []) 3 ≡ 8) × (quotientOf 4 (0 ∷ 0 ∷ 0 ∷ 1 ∷ []) 3 3 ≡ 1)
 unfolding quotientOf inverseOf powerOf powerWithin rotate rotatedBy tableProduct productBit total bitOf
 factors-in-order = (refl, refl, refl)
+
+-- ---- grades (document 02, §3)
+
+-- "At degree 6 too: 7 is prime, yet its optimal basis is of the second kind."
+pub second-kind : buildReport 67 41 (recordSize * 6) ≡ record { number = 0; place = 0; degree = 6; complexity = 11; grade = 2 }
+unfolding buildReport issueOf summaryOf firstOf tooLarge degreeOutside divided strays divides degree some first normal independent conjugates conjugatesFrom squared tableRows listed coordinates comb mulMod rem reduce product digits digitsFrom _⊕_ complexity ones onesIn gradeOf kindOf gradeNumber powMod
+second-kind = refl
+
+-- "Both kinds of optimal basis exist at degree 18": the grades of two elements of complexity 35. That they have it is run and compared, in `vectors`.
+pub both-kinds : (gradeNumber (gradeOf 262153 18 52434 35) ≡ 1) × (gradeNumber (gradeOf 262153 18 38805 35) ≡ 2)
+unfolding gradeOf kindOf gradeNumber powMod mulMod rem reduce product digits digitsFrom _⊕_
+both-kinds = (refl, refl)
+
+-- "At degree 2 both descriptions fit": each of its two normal elements to the power 3 is 1
+pub cubes : (powMod 7 2 2 3 ≡ 1) × (powMod 7 2 3 3 ≡ 1)
+unfolding powMod mulMod rem reduce product digits digitsFrom _⊕_
+cubes = (refl, refl)

@@ -7,6 +7,7 @@ pub mod Demand3
 pub mod Division
 pub mod Examples
 pub mod Exports
+pub mod Grades
 pub mod Listed
 pub mod Matrices
 pub mod Performed

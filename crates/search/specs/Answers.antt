@@ -1,4 +1,4 @@
--- What the call search answers: the order of its refusals, the case of its enum, and document 01's numbers for each case.
+-- What the call search answers: the order of its refusals, the case of its enum, and the documents' numbers for each case.
 --
 --   rangeRule, searchOrder     "Search: 1, 4, 12, 2, 3."
 --   searchAnswer f first last  the answer, as a function of the inputs

@@ -4,8 +4,8 @@
 --   boundOf w                how many ones a table may have and still be the best beside w
 --   Joinable f n w a x       a is a leader of which x is decided, as far as joining it to w needs, and one more can be counted
 --
--- In order: a record with an inexact count is kept or not as the exact one would be; a found record joined, case by case; the leader
--- that is joined.
+-- In order: a record with an inexact count is kept or not as the exact one would be; a found record joined, case by case; the found
+-- record of an element, and when it is a new best; the leader that is joined.
 -- Assumes nothing.
 use mathlib.Core.Path.{_≡_, refl, sym, ap, _∙_}
 use mathlib.Core.Logic.{inl, inr, ⊎-elim}
@@ -15,14 +15,15 @@ use native.Mathlib.Omega.{arith}
 use Rattle.gf2.specs.Numbers.{order}
 use Rattle.gf2.specs.Truth.{not-true-false}
 use Rattle.normal.specs.Normal.{normal}
+use Rattle.field.specs.Accepted.{Operand}
 use Rattle.elements.specs.Fields.{ElementOf}
 use Rattle.elements.specs.Ones.{Within}
 use Rattle.elements.specs.Decided.{Decides}
 use Rattle.elements.specs.declared.deciding.Decided.{Decided}
 use Rattle.elements.specs.declared.deciding.Decided.the-variants as decided
-use Rattle.search.specs.Search.{leader, complexityAt, foundBy, better, joined, candidateOf, countOf}
+use Rattle.search.specs.Search.{leader, complexityAt, foundBy, precedes, withCount, better, joined, candidateOf, countOf}
 use Rattle.search.specs.Preceding.{Precedes, precedes-means}
-use Rattle.search.specs.Joined.{before, better-left, joined-nothing}
+use Rattle.search.specs.Joined.{before, better-right, better-left, joined-nothing}
 use Rattle.search.specs.Walks.{candidate-is, candidate-none, normal-leader, not-normal}
 use Rattle.search.specs.declared.answer.Best.{Best}
 use Rattle.search.specs.declared.answer.Search.{Search}
@@ -85,13 +86,35 @@ pub join-first : (w : Search) (x y : Best) → w ≡ Nothing → y ≡ x → Fou
 unfolding joined
 join-first w x y e ey = rw (e, ey)
 
-pub join-better : (w : Search) (x y held r : Best) → w ≡ Found held → y ≡ x → r ≡ better held y → Found r ≡ joined w (Found x)
+pub join-better : (w : Search) (x held r : Best) → w ≡ Found held → r ≡ better held x → Found r ≡ joined w (Found x)
 unfolding joined
-join-better w x y held r e ey er = rw (e, er, ey)
+join-better w x held r e er = rw (e, er)
 
-pub counts-fit : (f n a c : ℕ) (w : Search) (x : Best) → w ≡ Found x → (y : Best) → y ≡ foundBy f n a c → countOf w + 1 < 2 ^ 64 → x .count + y .count < 2 ^ 64
-unfolding foundBy countOf
-counts-fit f n a c w x e y ey h = rw ey (rw e at h)
+pub counts-fit : (w : Search) (x : Best) → w ≡ Found x → countOf w + 1 < 2 ^ 64 → x .count + 1 < 2 ^ 64
+unfolding countOf
+counts-fit w x e h = rw e at h
+
+-- ---- the found record of a
+
+pub operand-of : {f n a : ℕ} → ElementOf f n a → Operand f n a
+operand-of s =
+    let d = s .of-field in
+    record { in-range = record { two = d .two; most = d .most; is-degree = d .is-degree }; small = s .below }
+
+module _ (f n a : ℕ) where
+  pub found-once : (c : ℕ) → withCount (foundBy f n a c) 1 ≡ foundBy f n a c
+  unfolding foundBy
+  found-once c = refl
+
+  module _ (x : Best) (c : ℕ) where
+    -- a new best
+    pub better-new : precedes c a (x .complexity) (x .element) ≡ true → better x (foundBy f n a c) ≡ withCount (foundBy f n a c) (x .count + 1)
+    unfolding foundBy
+    better-new e = better-right x (foundBy f n a c) e
+
+    pub better-kept : precedes c a (x .complexity) (x .element) ≡ false → better x (foundBy f n a c) ≡ withCount x (x .count + 1)
+    unfolding foundBy
+    better-kept e = better-left x (foundBy f n a c) e
 
 -- ---- the leader a
 

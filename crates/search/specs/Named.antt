@@ -132,6 +132,14 @@ module _ (f n first last : ℕ) where
       let g : x .grade ≡ y .grade = s .graded ∙ ap (gradeAt f n) e ∙ sym (t .graded) in
       best-same x y e c g (sym k)
 
+  -- what is found has the complexity and the grade of its own element
+  pub ranged-own : (x : Best) → ranged f n first last ≡ Found x → (x .complexity ≡ complexityAt f n (x .element)) × (x .grade ≡ gradeAt f n (x .element))
+  unfolding ranged
+  ranged-own x e = go (rw e at (walked-answers f n first (suc last - first)))
+    where
+      go : Answers f n first (first + (suc last - first)) (Found x) → (x .complexity ≡ complexityAt f n (x .element)) × (x .grade ≡ gradeAt f n (x .element))
+      go (best y s) = (s .ones, s .graded)
+
   module _ (h : first ≤ last) where
     ranged-answers : Answers f n first (suc last) (ranged f n first last)
     unfolding ranged

@@ -57,13 +57,13 @@ unfoldable pub complexityAt : (f n a : ℕ) → ℕ
 complexityAt f n a = complexity (tableRows f n a)
 
 unfoldable pub gradeAt : (f n a : ℕ) → Grade
-gradeAt f n a = gradeOf n (complexityAt f n a)
+gradeAt f n a = gradeOf f n a (complexityAt f n a)
 
 -- ---- found records
 
 -- "found, with the element, its complexity, its grade and the count": the one place where such a record is made
 unfoldable pub foundBy : (f n a c : ℕ) → Best
-foundBy f n a c = record { element = a; complexity = c; grade = gradeOf n c; count = 1 }
+foundBy f n a c = record { element = a; complexity = c; grade = gradeOf f n a c; count = 1 }
 
 abbrev pub alone : (f n a : ℕ) → Best
 alone f n a = foundBy f n a (complexityAt f n a)

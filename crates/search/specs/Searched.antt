@@ -1,5 +1,5 @@
--- What the call search answers: for an accepted f and a range of elements, the answer over the range; over two adjoining ranges, refused or
--- not, answers that determine the one over their union.
+-- What the call search answers: for an accepted f and a range of elements, the answer over the range; what is found, with its own complexity
+-- and grade; over two adjoining ranges, refused or not, answers that determine the one over their union.
 -- Assumes nothing.
 use mathlib.Core.Path.{_≡_, refl, ap, _∙_}
 use mathlib.Core.Logic.{⊎-elim}
@@ -16,11 +16,13 @@ use Rattle.field.specs.Refusals.{tooLarge, fieldOrder}
 use Rattle.refusals.specs.Answers.{answerOf}
 use Rattle.field.specs.Orders.{small-enough}
 use Rattle.field.specs.Checked.{field-accepts}
-use Rattle.search.specs.Search.{joined, ranged}
+use Rattle.search.specs.Search.{complexityAt, gradeAt, joined, ranged}
 use Rattle.search.specs.Answers.{searchOrder, searchOf, searchAnswer}
 use Rattle.search.specs.Walks.{ranged-cut}
+use Rattle.search.specs.Named.{ranged-own}
 use Rattle.search.specs.Orders.{search-outside, search-last, search-past}
-use Rattle.search.specs.declared.answer.Search.the-variants.{Refused}
+use Rattle.search.specs.declared.answer.Best.{Best}
+use Rattle.search.specs.declared.answer.Search.the-variants.{Refused, Found}
 
 large : (n a : ℕ) → 2 ^ n ≤ a → tooLarge n a ≡ true
 unfolding tooLarge
@@ -43,6 +45,17 @@ accepted-answer f s first last h l =
 answer-refused : (f first last k : ℕ) → firstOf (searchOrder f first last) ≡ refuse k 0 → searchAnswer f first last ≡ Refused k
 unfolding searchAnswer answerOf
 answer-refused f first last k e = rw e
+
+-- what the call finds has the complexity and the grade of its own element
+pub answer-own : (f first last : ℕ) (x : Best) → searchAnswer f first last ≡ Found x
+    → (x .complexity ≡ complexityAt f (degree f) (x .element)) × (x .grade ≡ gradeAt f (degree f) (x .element))
+unfolding searchAnswer answerOf
+answer-own f first last x = go (firstOf (searchOrder f first last))
+  where
+    go : (v : Verdict) → searchOf v (ranged f (degree f) first last) ≡ Found x
+        → (x .complexity ≡ complexityAt f (degree f) (x .element)) × (x .grade ≡ gradeAt f (degree f) (x .element))
+    go clear e = ranged-own f (degree f) first last x e
+    go (refuse k p) e = let z : _≡_ {A = ℕ} 0 1 = cc in absurd (omega arith)
 
 -- the answers of two adjoining ranges, whatever they are, determine the answer of their union
 pub search-joined : (f first mid last : ℕ) → first ≤ mid → mid < last

@@ -13,17 +13,17 @@ use normal::grade_of;
 // The largest number of 32 bits, which no count of ones passes. The specs have it as `unbounded`.
 const UNBOUNDED: u32 = 4294967295;
 
-// The found record of the normal leader a, whose table has so many ones. No other place makes one of an element.
-fn found_by(f: u64, n: u32, a: u64, ones: u32) -> Best
+// The found record of the normal leader a, whose table has so many ones, with this count. No other place makes one of an element.
+fn found_by(f: u64, n: u32, a: u64, ones: u32, count: u64) -> Best
     requires { ⌜ ElementOf f n a ⌝ }
-    ensures { λ r. ⌜ r ≡ foundBy f n a ones ⌝ }
+    ensures { λ r. ⌜ r ≡ withCount (foundBy f n a ones) count ⌝ }
 {
-    let grade = grade_of(n, ones);
+    let grade = grade_of(f, n, a, ones);
     Best {
         element: a,
         complexity: ones,
         grade,
-        count: 1,
+        count,
     }
 }
 
@@ -47,14 +47,15 @@ fn comes_before(c: u32, e: u64, d: u32, g: u64) -> bool
     if c == d { e < g } else { c < d }
 }
 
-// The better of two found records, with the counts of both.
-fn better_of(x: Best, y: Best) -> Best
-    requires { ⌜ x .count + y .count < 2 ^ 64 ⌝ }
-    ensures { λ r. ⌜ r ≡ better x y ⌝ }
+// The better of a found record and that of the normal leader a, whose table has so many ones, with the counts of both. Only a new best
+// gets its grade.
+fn better_of(f: u64, n: u32, x: Best, a: u64, ones: u32) -> Best
+    requires { ⌜ ElementOf f n a × (x .count + 1 < 2 ^ 64) ⌝ }
+    ensures { λ r. ⌜ r ≡ better x (foundBy f n a ones) ⌝ }
 {
-    let count = x.count + y.count;
-    if comes_before(y.complexity, y.element, x.complexity, x.element) {
-        with_count(y, count)
+    let count = x.count + 1;
+    if comes_before(ones, a, x.complexity, x.element) {
+        found_by(f, n, a, ones, count)
     } else {
         with_count(x, count)
     }
@@ -78,8 +79,8 @@ fn join_leader(f: u64, n: u32, held: Search, a: u64, ones: u32) -> Search
 {
     match held {
         Search::Refused(number) => Search::Refused(number),
-        Search::Nothing => Search::Found(found_by(f, n, a, ones)),
-        Search::Found(x) => Search::Found(better_of(x, found_by(f, n, a, ones))),
+        Search::Nothing => Search::Found(found_by(f, n, a, ones, 1)),
+        Search::Found(x) => Search::Found(better_of(f, n, x, a, ones)),
     }
 }
 

@@ -1,7 +1,7 @@
--- What the calls on sheets answer: the case of the enum, document 01's numbers for each case, and the final state of lent memory.
+-- What the calls on sheets answer: the case of the enum, the documents' numbers for each case, and the final state of lent memory.
 -- Definitions alone.
 --
---   Issue                         document 01's numbers for what build and reading answer
+--   Issue                         the documents' numbers for what build and reading answer
 --   issuedOf v s, issueOf v s     the case, and the numbers, that an order's verdict gives
 --   summaryOf f n a               "Build and reading answer n, complexity and grade."
 --   toPolynomial, toNormal        the two conversions of a value, by the rows as they stand
@@ -51,10 +51,9 @@ unfoldable pub issuedReport : Issued → Issue
 issuedReport (issued.Done s) = record { number = 0; place = 0; degree = s .degree; complexity = s .complexity; grade = gradeNumber (s .grade) }
 issuedReport (issued.Refused r) = record { number = r .number; place = r .place; degree = 0; complexity = 0; grade = 0 }
 
--- "Build and reading answer n, complexity and grade": of f, of degree n, the element a and its table. Complexity and degree decide the
--- grade, so f and a are named and not read.
+-- "Build and reading answer n, complexity and grade": of f, of degree n, the element a and its table
 abbrev pub summaryWith : (f n a : ℕ) (table : List ℕ) → Summary
-summaryWith f n a table = record { degree = n; complexity = complexity table; grade = gradeOf n (complexity table) }
+summaryWith f n a table = record { degree = n; complexity = complexity table; grade = gradeOf f n a (complexity table) }
 
 unfoldable pub summaryOf : (f n a : ℕ) → Summary
 summaryOf f n a = summaryWith f n a (tableRows f n a)

@@ -29,22 +29,22 @@ use refusals::Checked;
 use refusals::Refusal;
 use refusals::refused;
 
-// "Build and reading answer n, complexity and grade": of f, of degree n, the element and its table. Degree and complexity decide the grade.
+// "Build and reading answer n, complexity and grade": of f, of degree n, the element and its table.
 fn summary_of(f: u64, n: u32, element: u64, table: [u64; LIMIT]) -> Summary
-    requires { ⌜ InRange f n ⌝ }
+    requires { ⌜ Operand f n element ⌝ }
     ensures { λ r. ⌜ r ≡ summaryWith f n element (take n table) ⌝ }
 {
     let complexity = complexity_of(table, n as usize);
     Summary {
         degree: n,
         complexity,
-        grade: grade_of(n, complexity),
+        grade: grade_of(f, n, element, complexity),
     }
 }
 
 // The sheet of a basis, at the buffer's front, and its summary.
 pub fn put_basis(buffer: &mut [u8], f: u64, n: u32, element: u64, basis: Basis) -> Summary
-    requires { ⌜ InRange f n × (recordSize * n ≤ length (now buffer)) ⌝ }
+    requires { ⌜ Operand f n element × (recordSize * n ≤ length (now buffer)) ⌝ }
     ensures summary { λ r. ⌜ r ≡ summaryWith f n element (take n (basis .table)) ⌝ }
     ensures written { λ r. ⌜ now (buffer .exit) ≡ pasted (now (buffer .entry)) 0 (recordsTo n n (tailOf f n) (basis .conjugates) (basis .inverse) (basis .table)) ⌝ }
 {

@@ -1,5 +1,5 @@
 // Runs document 01's "Small numbers to hold it against" and the complexities of source documents 000 and 001. The file stdout has
-// what those documents say, and for division (document 02, §1) numbers that follow from its steps. By theme:
+// what those documents say, and for division and grades (document 02, §1 and §3) numbers that follow from its sentences. By theme:
 //   complexities   the least complexity of small fields
 //   generators     the bases of 001's table 5
 //   sheets         sheets that are built, and elements that are refused
@@ -7,12 +7,14 @@
 //   divisions      inverses and quotients on two sheets
 //   checks         polynomials that the check takes or refuses
 //   searches       the searches at f = 19
+//   grades         the grades of the best, and both kinds at degree 18
 //   records        the bytes of a record, and sheets that lost one
 mod checks;
 mod complexities;
 mod conversions;
 mod divisions;
 mod generators;
+mod grades;
 mod printing;
 mod records;
 mod searches;
@@ -30,6 +32,7 @@ fn run() -> bool {
         && divisions::run()
         && checks::run()
         && searches::run()
+        && grades::run()
         && records::run()
         && finish_output()
 }

@@ -20,7 +20,7 @@ fn print_answer(answer: Search) -> bool {
     }
 }
 
-fn print_search(f: u64, first: u64, last: u64) -> bool {
+pub(crate) fn print_search(f: u64, first: u64, last: u64) -> bool {
     say_number(b"f = ", f)
         && say_number(b", search ", first)
         && say_number(b" to ", last)

@@ -39,7 +39,7 @@ fn print_four(element: u64) -> bool {
     print_sheet(19, element, &mut buffer)
 }
 
-// The inverse rows of 19 and 9 and the grade at 7 are not among document 01's numbers: they follow from its definitions.
+// The inverse rows of 19 and 9 are not among document 01's numbers: they follow from its definitions. The grade at 7 is document 02's (§3).
 pub(crate) fn run() -> bool {
     print_two(2)
         && print_two(1)

@@ -1,11 +1,11 @@
 -- `search::joining::found_by` meets its contract, which is what it makes. Assumes nothing.
-use borrow.Author.Needs.{needs}
 use Rattle.search.specs.Search.{foundBy}
+use Rattle.search.specs.Joining.{operand-of}
 use Rattle.search.proofs.joining.found_by.Statement.{statement}
 use Rattle.search.proofs.joining.found_by.Tie as tie
 
 grade-of-requires : tie.Need-grade-of-requires
-grade-of-requires c κs = search needs
+grade-of-requires c κs = operand-of (c .pre)
 
 returns : tie.Need-returns
 unfolding foundBy

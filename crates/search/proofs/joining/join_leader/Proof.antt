@@ -1,7 +1,8 @@
 -- `search::joining::join_leader` meets its contract, by the cases of what is held.
 -- Assumes nothing.
+use mathlib.Core.Path.{_∙_}
 use borrow.Author.Needs.{needs}
-use Rattle.search.specs.Joining.{join-refused, join-first, join-better, counts-fit}
+use Rattle.search.specs.Joining.{join-refused, join-first, join-better, found-once, counts-fit}
 use Rattle.search.proofs.joining.join_leader.Statement.{statement}
 use Rattle.search.proofs.joining.join_leader.Tie as tie
 
@@ -17,13 +18,11 @@ found-by-requires c κs = search needs
 enum-known-held-2 : tie.Need-enum-known-held-2
 enum-known-held-2 c = search needs
 
-found-by-requires-2 : tie.Need-found-by-requires-2
-found-by-requires-2 c κs = search needs
-
 better-of-requires : tie.Need-better-of-requires
 better-of-requires c κs =
-    let k = c .before .before in
-    counts-fit _ _ _ _ _ _ (k .held2 .given .1) _ (c .found-by2 .ensures) (k .before .before .pre .1)
+    let k = c .before in
+    let s = k .before .before in
+    (s .pre .0, counts-fit _ _ (k .held2 .given .1) (s .pre .1))
 
 returns : tie.Need-returns
 returns c =
@@ -31,13 +30,12 @@ returns c =
     join-refused _ _ _ (k .held .given .1)
 
 returns-2 : tie.Need-returns-2
-returns-2 c = join-first _ _ _ (c .before .enum-told .given .1) (c .found-by .ensures)
+returns-2 c = join-first _ _ _ (c .before .enum-told .given .1) (c .found-by .ensures ∙ found-once _ _ _ _)
 
 returns-3 : tie.Need-returns-3
 returns-3 c =
-    let p = c .before in
-    let k = p .before .before in
-    join-better _ _ _ _ _ (k .held2 .given .1) (p .found-by2 .ensures) (c .better-of .ensures)
+    let k = c .before .before in
+    join-better _ _ _ _ (k .held2 .given .1) (c .better-of .ensures)
 
 pub join-leader-spec : {M : Type 1} → statement M
 join-leader-spec =
@@ -47,7 +45,6 @@ join-leader-spec =
     enum-told
     found-by-requires
     enum-known-held-2
-    found-by-requires-2
     better-of-requires
     returns
     returns-2

@@ -27,7 +27,7 @@ returns c =
 put-basis-requires : tie.Need-put-basis-requires
 put-basis-requires c κs =
     let s = c .before .before .before .before .before .before in
-    (s .pre .1 .in-range, s .pre .2)
+    (s .pre .1, s .pre .2)
 
 same-length : tie.Need-same-length
 same-length c = search needs

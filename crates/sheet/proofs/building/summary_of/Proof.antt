@@ -1,4 +1,4 @@
--- `sheet::building::summary_of` meets its contract: its complexity, and the grade of that.
+-- `sheet::building::summary_of` meets its contract: the complexity of its table, and the grade of its element at that.
 -- Assumes nothing.
 use mathlib.Core.Path.{_≡_}
 use mathlib.Core.List.{List}
@@ -11,7 +11,7 @@ use Rattle.sheet.specs.Answers.{summaryWith}
 use Rattle.sheet.proofs.building.summary_of.Statement.{statement}
 use Rattle.sheet.proofs.building.summary_of.Tie as tie
 
-summarized : (f n a c : ℕ) (g : Grade) (table : List ℕ) → c ≡ complexity table → g ≡ gradeOf n c → record { degree = n; complexity = c; grade = g } ≡ summaryWith f n a table
+summarized : (f n a c : ℕ) (g : Grade) (table : List ℕ) → c ≡ complexity table → g ≡ gradeOf f n a c → record { degree = n; complexity = c; grade = g } ≡ summaryWith f n a table
 summarized f n a c g table e p = rw (p, e)
 
 complexity-of-requires : tie.Need-complexity-of-requires

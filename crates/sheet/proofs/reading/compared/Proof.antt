@@ -19,8 +19,8 @@ slice-aggregate-put-basis c = search needs
 put-basis-requires : tie.Need-put-basis-requires
 put-basis-requires c κs =
     let s = c .before .before in
-    let r = rebuilt-element (s .args .sheet .now) (s .args .f) (s .args .n) (s .args .element) (s .pre .0) .in-range in
-    (r, omega (arith, r .most))
+    let r = rebuilt-element (s .args .sheet .now) (s .args .f) (s .args .n) (s .args .element) (s .pre .0) in
+    (r, omega (arith, r .in-range .most))
 
 slice-aggregate-first-differing : tie.Need-slice-aggregate-first-differing
 slice-aggregate-first-differing c = search needs
