@@ -7,17 +7,20 @@ use std::fmt;
 
 /// The kind of a basis, as its grade names it.
 ///
-/// A basis is optimal if its complexity is 2n-1, the least there can be, and
-/// optimal bases are of type I or II. Document 01 tells the two apart by the
-/// degree alone: if n+1 is prime the grade is 1, for a basis of type II too, as
-/// at degree 6.
+/// A basis is optimal if its complexity is 2n-1, the least there can be. There
+/// are two kinds of optimal basis, and the element tells which one it makes: a
+/// degree can have both, as 18 has.
 ///
 /// ```
 /// use sabrentuglio::{Grade, Sheet};
 ///
-/// assert_eq!(Sheet::build(19, 9)?.summary().kind(), Some(Grade::NotOptimal));
-/// assert_eq!(Sheet::build(19, 8)?.summary().kind(), Some(Grade::TypeOne));
-/// assert_eq!(Sheet::build(11, 3)?.summary().kind(), Some(Grade::TypeTwo));
+/// let kind = |f, element| Sheet::build(f, element).map(|sheet| sheet.summary().kind());
+/// assert_eq!(kind(19, 9)?, Some(Grade::NotOptimal));
+/// assert_eq!(kind(19, 8)?, Some(Grade::FirstKind));
+/// assert_eq!(kind(11, 3)?, Some(Grade::SecondKind));
+/// assert_eq!(kind(7, 2)?, Some(Grade::BothKinds));
+/// assert_eq!(kind(262153, 52434)?, Some(Grade::FirstKind));
+/// assert_eq!(kind(262153, 38805)?, Some(Grade::SecondKind));
 /// # Ok::<(), sabrentuglio::Refusal>(())
 /// ```
 #[derive(Clone, Copy, Debug, PartialEq, Eq, Hash)]
@@ -25,34 +28,45 @@ use std::fmt;
 pub enum Grade {
     /// Grade 0: the complexity is not 2n-1.
     NotOptimal = 0,
-    /// Grade 1: the complexity is 2n-1, and n+1 is prime.
-    TypeOne = 1,
-    /// Grade 2: the complexity is 2n-1, and n+1 is not prime.
-    TypeTwo = 2,
+    /// Grade 1: the complexity is 2n-1, n is not 2, and the element to the
+    /// power n+1 is 1.
+    FirstKind = 1,
+    /// Grade 2: the complexity is 2n-1, n is not 2, and the element to the
+    /// power n+1 is not 1.
+    SecondKind = 2,
+    /// Grade 3: the complexity is 2n-1, and n is 2.
+    BothKinds = 3,
 }
 
 impl Grade {
     /// All grades, in the order of their numbers.
-    pub const ALL: &'static [Grade] = &[Grade::NotOptimal, Grade::TypeOne, Grade::TypeTwo];
+    pub const ALL: &'static [Grade] = &[
+        Grade::NotOptimal,
+        Grade::FirstKind,
+        Grade::SecondKind,
+        Grade::BothKinds,
+    ];
 
-    /// The number in document 01.
+    /// The number in the documents.
     pub fn number(self) -> u64 {
         self as u64
     }
 }
 
-/// What the grade's number says. It does not say "type I", since at degree 6 a
-/// basis of type II has grade 1 too.
+/// What the grade's number says.
 ///
 /// ```
-/// assert_eq!(sabrentuglio::Grade::TypeOne.to_string(), "optimal, n+1 prime");
+/// use sabrentuglio::Grade;
+///
+/// assert_eq!(Grade::FirstKind.to_string(), "optimal, of the first kind");
 /// ```
 impl fmt::Display for Grade {
     fn fmt(&self, out: &mut fmt::Formatter<'_>) -> fmt::Result {
         out.pad(match self {
             Grade::NotOptimal => "not optimal",
-            Grade::TypeOne => "optimal, n+1 prime",
-            Grade::TypeTwo => "optimal, n+1 not prime",
+            Grade::FirstKind => "optimal, of the first kind",
+            Grade::SecondKind => "optimal, of the second kind",
+            Grade::BothKinds => "optimal, of both kinds",
         })
     }
 }
@@ -217,7 +231,7 @@ mod tests {
     #[test]
     fn grades_keep_their_numbers() {
         let numbers: Vec<u64> = Grade::ALL.iter().map(|grade| grade.number()).collect();
-        assert_eq!(numbers, [0, 1, 2]);
+        assert_eq!(numbers, [0, 1, 2, 3]);
         for grade in Grade::ALL {
             assert_eq!(Grade::try_from(u64::from(*grade)), Ok(*grade));
         }

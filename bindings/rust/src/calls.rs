@@ -243,7 +243,7 @@ pub fn quotient(sheet: &[u8], dividend: u64, divisor: u64) -> Result<u64, Refusa
 ///
 /// let best = Best { element: 8, complexity: 7, grade: 1, count: 2 };
 /// assert_eq!(search(19, 0, 15)?, Some(best));
-/// assert_eq!(best.kind(), Some(Grade::TypeOne));
+/// assert_eq!(best.kind(), Some(Grade::FirstKind));
 /// assert_eq!(search(19, 10, 15)?, None);
 /// # Ok::<(), sabrentuglio::Refusal>(())
 /// ```

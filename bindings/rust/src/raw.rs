@@ -39,7 +39,7 @@ pub struct Issued {
     pub degree: u64,
     /// The number of ones in the table rows.
     pub complexity: u64,
-    /// The grade, 0, 1 or 2.
+    /// The grade, 0 to 3.
     pub grade: u64,
 }
 
@@ -56,7 +56,7 @@ pub struct Found {
     pub element: u64,
     /// Its complexity.
     pub complexity: u64,
-    /// Its grade, 0, 1 or 2.
+    /// Its grade, 0 to 3.
     pub grade: u64,
     /// How many normal leaders lie in the range.
     pub count: u64,

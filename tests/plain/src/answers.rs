@@ -59,7 +59,7 @@ pub struct Issued {
     pub degree: u64,
     /// The number of ones in the table rows.
     pub complexity: u64,
-    /// 0, 1 or 2.
+    /// The grade, 0 to 3.
     pub grade: u64,
 }
 

@@ -2,8 +2,8 @@
 //! notations" and "What a sheet holds").
 //!
 //! [`conjugates`]; [`Coordinates`], which solves for normal coordinates;
-//! [`Basis`] with its conjugate, inverse and table rows; [`complexity`],
-//! [`grade`] and [`product_of_coordinates`] on table rows of any origin.
+//! [`Basis`] with its conjugate, inverse and table rows; [`complexity`] and
+//! [`product_of_coordinates`] on table rows of any origin; [`grade`].
 
 use crate::polynomial::{degree, product, squared};
 
@@ -91,13 +91,19 @@ pub fn complexity(table: &[u64]) -> u64 {
     table.iter().map(|row| u64::from(row.count_ones())).sum()
 }
 
-/// Grade 0: not 2n-1; 1: 2n-1 and n+1 is prime; 2: 2n-1 and n+1 is not.
-pub fn grade(n: u64, complexity: u64) -> u64 {
-    let next_is_prime = (2..=n).all(|d| (n + 1) % d != 0);
-    match (complexity == 2 * n - 1, next_is_prime) {
-        (false, _) => 0,
-        (true, true) => 1,
-        (true, false) => 2,
+/// The grade of the basis of an element (document 02, §3).
+///
+/// 0: the complexity is not 2n-1; with 2n-1, 1 where the element to the power
+/// n+1 is 1, otherwise 2. At degree 2 both fit, and it is 3.
+pub fn grade(f: u64, element: u64, complexity: u64) -> u64 {
+    let n = u64::from(degree(f).expect("f is not zero"));
+    // The element, multiplied n times by itself.
+    let power = (0..n).fold(element, |power, _| product(f, power, element));
+    match (complexity == 2 * n - 1, n == 2, power == 1) {
+        (false, _, _) => 0,
+        (true, true, _) => 3,
+        (true, false, true) => 1,
+        (true, false, false) => 2,
     }
 }
 
@@ -223,10 +229,19 @@ mod tests {
 
     #[test]
     fn grades() {
-        assert_eq!(grade(4, 7), 1);
-        assert_eq!(grade(4, 9), 0);
-        assert_eq!(grade(3, 5), 2);
-        assert_eq!(grade(2, 3), 1);
-        assert_eq!(grade(46, 91), 1);
+        assert_eq!(grade(19, 8, 7), 1);
+        assert_eq!(grade(19, 9, 9), 0);
+        assert_eq!(grade(11, 3, 5), 2);
+        assert_eq!([grade(7, 2, 3), grade(7, 3, 3)], [3, 3]);
+        // 7 is prime, and the optimal basis of degree 6 of the second kind.
+        assert_eq!(grade(67, 41, 11), 2);
+        // Both kinds at degree 18.
+        let optimal = |element| {
+            let basis = Basis::new(262153, element).unwrap();
+            let complexity = complexity(&basis.table);
+            (complexity, grade(262153, element, complexity))
+        };
+        assert_eq!(optimal(52434), (35, 1));
+        assert_eq!(optimal(38805), (35, 2));
     }
 }

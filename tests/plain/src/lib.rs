@@ -1,6 +1,6 @@
-//! Document 01, and document 02's division, in plain Rust, written from their
-//! sentences alone, so that the desk's archive can be compared with something
-//! that shares no line with it.
+//! Document 01, and document 02's division and grades, in plain Rust, written
+//! from their sentences alone, so that the desk's archive can be compared with
+//! something that shares no line with it.
 //!
 //! In order: [`answers`] has what the calls answer; [`polynomial`] the
 //! arithmetic; [`accepted`] the tests of f; [`basis`] the three matrices of a

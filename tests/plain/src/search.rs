@@ -47,7 +47,7 @@ fn best(f: u64, n: u32, first: u64, last: u64) -> Found {
         if found.found == 0 || complexity < found.complexity {
             found.complexity = complexity;
             found.element = element;
-            found.grade = grade(u64::from(n), complexity);
+            found.grade = grade(f, element, complexity);
         }
         found.found = 1;
         found.count += 1;

@@ -89,14 +89,13 @@ fn sheet_of(f: u64, basis: &Basis) -> Vec<u8> {
     sheet
 }
 
-/// What building and reading answer of a basis.
-fn issued(basis: &Basis) -> Issued {
-    let degree = basis.table.len() as u64;
+/// What building and reading answer of a basis: its element is c_0.
+fn issued(f: u64, basis: &Basis) -> Issued {
     let complexity = complexity(&basis.table);
     Issued {
-        degree,
+        degree: basis.table.len() as u64,
         complexity,
-        grade: grade(degree, complexity),
+        grade: grade(f, basis.conjugates[0], complexity),
         ..Issued::default()
     }
 }
@@ -109,7 +108,7 @@ pub fn build(f: u64, element: u64, buffer: &mut [u8]) -> Issued {
         let sheet = sheet_of(f, basis);
         buffer[..sheet.len()].copy_from_slice(&sheet);
     }
-    basis.map(|basis| issued(&basis)).into()
+    basis.map(|basis| issued(f, &basis)).into()
 }
 
 fn basis_to_write(f: u64, element: u64, room: usize) -> Result<Basis, Refusal> {
@@ -122,10 +121,10 @@ fn basis_to_write(f: u64, element: u64, room: usize) -> Result<Basis, Refusal> {
 
 /// Reads a sheet: 7, 8 and 9, then 2, 3, 5, then 10.
 pub fn read(sheet: &[u8]) -> Issued {
-    rebuilt(sheet).map(|basis| issued(&basis)).into()
+    compared(sheet).into()
 }
 
-fn rebuilt(sheet: &[u8]) -> Result<Basis, Refusal> {
+fn compared(sheet: &[u8]) -> Result<Issued, Refusal> {
     let rows = Rows::new(sheet)?;
     refuse_unaccepted(rows.f)?;
     let basis = Basis::new(rows.f, rows.basis.conjugates[0]).ok_or_else(|| Refusal::new(5))?;
@@ -134,7 +133,7 @@ fn rebuilt(sheet: &[u8]) -> Result<Basis, Refusal> {
     let differs = |i: &usize| sheet[record(*i)] != right[record(*i)];
     match (0..rows.degree as usize).find(differs) {
         Some(record) => Err(Refusal::at(10, record)),
-        None => Ok(basis),
+        None => Ok(issued(rows.f, &basis)),
     }
 }
 
@@ -195,7 +194,7 @@ pub(crate) mod tests {
     #[test]
     fn builds() {
         let mut buffer = [9; 200];
-        assert_eq!(build(7, 2, &mut buffer), answer(2, 3, 1));
+        assert_eq!(build(7, 2, &mut buffer), answer(2, 3, 3));
         let mut second = vec![2, 1, 3, 0, 0, 0, 0, 0];
         for row in [3u64, 1, 3] {
             second.extend_from_slice(&row.to_le_bytes());
