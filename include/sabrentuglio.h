@@ -75,7 +75,7 @@
 #include <stdint.h>
 
 /* The version of the product, which the archive, the command line and the Rust crate share. */
-#define SABRENTUGLIO_VERSION "1.1.0"
+#define SABRENTUGLIO_VERSION "2.0.0"
 
 /*
  * The bytes of stack that a call may take, rounded up from a measurement, bindings/c/stack.c: no
@@ -101,12 +101,16 @@ typedef struct desk_value {
 
 /*
  * The result of desk_build and desk_read: the degree n, and the complexity and grade of the basis.
- * The complexity is the number of ones in the n table rows.
+ * The complexity is the number of ones in the n table rows. A basis of complexity 2n-1 is optimal:
+ * grade 1 says of the first kind, 2 of the second kind, 3 of both.
  *
  *    grade   given exactly when
  *    0       the complexity is not 2n-1
- *    1       the complexity is 2n-1, and n+1 is prime
- *    2       the complexity is 2n-1, and n+1 is not prime
+ *    1       the complexity is 2n-1, n is not 2, and the element to the power n+1 is 1
+ *    2       the complexity is 2n-1, n is not 2, and the element to the power n+1 is not 1
+ *    3       the complexity is 2n-1, and n is 2
+ *
+ * The power is modulo f. Of a sheet that is read the element is the conjugate of record 0.
  */
 typedef struct desk_issued {
     uint64_t number;

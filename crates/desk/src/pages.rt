@@ -66,6 +66,9 @@ fn put_notations(output: Output) -> bool {
         && output.put(
             b"A listing has a line for each row: its number, conjugate, inverse row and table row.\n",
         )
+        && output.put(
+            b"Grade 0: the complexity is not 2n-1, for degree n. If it is, the basis is optimal: grade 1 of the first kind,\n2 of the second, 3 of both (at degree 2).\n",
+        )
 }
 
 fn put_endings(output: Output) -> bool {
@@ -89,5 +92,5 @@ pub(crate) fn put_help(output: Output) -> Ending {
 
 // The one version number of the program, the C header and the Rust crate.
 pub(crate) fn put_version(output: Output) -> Ending {
-    done_if(output.put(b"desk 1.1.0\n"))
+    done_if(output.put(b"desk 2.0.0\n"))
 }
