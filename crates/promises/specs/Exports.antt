@@ -1,5 +1,5 @@
 -- Demand 1 for the functions that other languages and the command line call, with the theorems of `Demand1`: a run of an export returns
--- the numbers that document 01 gives for the answer of the call of its name, and a run on a word what the word means.
+-- the numbers that the documents give for the answer of the call of its name, and a run on a word what the word means.
 -- Assumes nothing.
 use mathlib.Core.Path.{_≡_, sym, _∙_}
 use lib.ListN.{length}
