@@ -64,9 +64,9 @@ buildAnswer f a room = issuedOf (firstOf (buildOrder f a room)) (summaryOf f (de
 unfoldable pub buildReport : (f a room : ℕ) → Issue
 buildReport f a room = issueOf (firstOf (buildOrder f a room)) (summaryOf f (degree f) a)
 
--- "The builder writes the first 32n bytes of the lent buffer and no others."
-abbrev pub atFront : (sheet buffer : List ℕ) → List ℕ
-atFront sheet buffer = sheet ++ drop (length sheet) buffer
+-- bytes written at a buffer's front, and the others as they came: "The builder writes the first 32n bytes of the lent buffer and no others."
+abbrev pub atFront : (bytes buffer : List ℕ) → List ℕ
+atFront bytes buffer = bytes ++ drop (length bytes) buffer
 
 unfoldable pub builtBuffer : (f a : ℕ) → List ℕ → List ℕ
 builtBuffer f a buffer = left (firstOf (buildOrder f a (length buffer))) (atFront (sheetBytes f (degree f) a) buffer) buffer

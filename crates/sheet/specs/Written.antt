@@ -157,12 +157,12 @@ module _ (f n a : ℕ) (deg : Degree f n) (two : 2 ≤ n) (most : n ≤ limit) (
 
 -- ---- records that do not differ
 
-same-refl : (l : List ℕ) → same l l ≡ true
+pub same-refl : (l : List ℕ) → same l l ≡ true
 unfolding same
 same-refl [] = refl
 same-refl (x ∷ l) = rw (eq-eqb x x refl, same-refl l)
 
-same-equal : (x y : List ℕ) → same x y ≡ true → x ≡ y
+pub same-equal : (x y : List ℕ) → same x y ≡ true → x ≡ y
 unfolding same
 same-equal [] [] e = refl
 same-equal [] (b ∷ y) e = absurd (not-both false e refl)

@@ -30,7 +30,7 @@ use refusals::Refusal;
 use refusals::refused;
 
 // "Build and reading answer n, complexity and grade": of f, of degree n, the element and its table.
-fn summary_of(f: u64, n: u32, element: u64, table: [u64; LIMIT]) -> Summary
+pub fn summary_of(f: u64, n: u32, element: u64, table: [u64; LIMIT]) -> Summary
     requires { ⌜ Operand f n element ⌝ }
     ensures { λ r. ⌜ r ≡ summaryWith f n element (take n table) ⌝ }
 {
