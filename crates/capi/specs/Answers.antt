@@ -1,7 +1,7 @@
 -- What the calls hand out, by the documents' numbers: field for field what the reports say.
 --
 --   deskValue p      a report of one value: check, multiply, square, trace, the conversions, times
---   deskIssued p     that of a built or read sheet
+--   deskIssued p     that of a built or read sheet, and of a text written or read
 --   foundFlag s      1 where the search's answer is its case "found", else 0
 --   deskFound b p    that of the search, beside that flag
 --   deskWord w       what a typed word means, which is no report: reading a word refuses nothing
