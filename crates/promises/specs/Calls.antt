@@ -1,5 +1,5 @@
 -- The calls, by their promises. A function is a call if it is public and does one of the things that document 01, "What the desk issues",
--- names: whoever holds numbers and memory may call it, so it asks nothing of its arguments (`asks-nothing`). The exports and the functions
+-- or a request of document 02 names: whoever holds numbers and memory may call it, so it asks nothing of its arguments (`asks-nothing`). The exports and the functions
 -- on words are called from outside too, and stand here as well.
 --
 --   Call              a call as the checker itself reads it: lifetimes, parameters, result, what it asks (`Asked`) and its promise (`Post`)
@@ -9,7 +9,7 @@
 --     .exit             the arguments once it has returned: what a lent slice holds then is `now` of it
 --   Determined c      any two results that the promise permits for the same arguments are equal
 --   DeterminedWith c left   and any two final states of what it lends, which `left` picks
---   check, multiply, ..   the fifteen calls of the desk, the sixteen exports, and the two that read a word
+--   check, multiply, ..   the seventeen calls of the desk, the eighteen exports, and the two that read a word
 --
 -- A theorem on every run of a call is one on what the call does. Definitions alone.
 -- Assumes nothing.
@@ -45,6 +45,10 @@ use Rattle.sheet.proofs.list_to_polynomial.Reads as list-to-polynomial-reads
 use Rattle.sheet.proofs.list_to_polynomial.Kinds as list-to-polynomial-kinds
 use Rattle.sheet.proofs.list_to_normal.Reads as list-to-normal-reads
 use Rattle.sheet.proofs.list_to_normal.Kinds as list-to-normal-kinds
+use Rattle.matrices.proofs.write_matrices.Reads as write-matrices-reads
+use Rattle.matrices.proofs.write_matrices.Kinds as write-matrices-kinds
+use Rattle.matrices.proofs.read_matrices.Reads as read-matrices-reads
+use Rattle.matrices.proofs.read_matrices.Kinds as read-matrices-kinds
 use Rattle.search.proofs.search.Reads as search-reads
 use Rattle.search.proofs.search.Kinds as search-kinds
 use Rattle.listing.proofs.listing.Reads as listing-reads
@@ -75,6 +79,10 @@ use Rattle.capi.proofs.desk_list_to_polynomial.Reads as desk-list-to-polynomial
 use Rattle.capi.proofs.desk_list_to_polynomial.Kinds as desk-list-to-polynomial-kinds
 use Rattle.capi.proofs.desk_list_to_normal.Reads as desk-list-to-normal-reads
 use Rattle.capi.proofs.desk_list_to_normal.Kinds as desk-list-to-normal-kinds
+use Rattle.capi.proofs.desk_write_matrices.Reads as desk-write-matrices-reads
+use Rattle.capi.proofs.desk_write_matrices.Kinds as desk-write-matrices-kinds
+use Rattle.capi.proofs.desk_read_matrices.Reads as desk-read-matrices-reads
+use Rattle.capi.proofs.desk_read_matrices.Kinds as desk-read-matrices-kinds
 use Rattle.capi.proofs.desk_search.Reads as desk-search-reads
 use Rattle.capi.proofs.desk_search.Kinds as desk-search-kinds
 use Rattle.capi.proofs.desk_number_of.Reads as desk-number-of-reads
@@ -160,6 +168,14 @@ list-to-polynomial = record { lifetimes = 3; params = list-to-polynomial-kinds.p
 abbrev pub list-to-normal : Call
 list-to-normal = record { lifetimes = 3; params = list-to-normal-kinds.ps; returns = list-to-normal-kinds.r; asks = list-to-normal-reads.Asked; promise = list-to-normal-reads.Post; asks-nothing = λ κs a. tt }
 
+-- ---- the text of the matrices
+
+abbrev pub write-matrices : Call
+write-matrices = record { lifetimes = 2; params = write-matrices-kinds.ps; returns = write-matrices-kinds.r; asks = write-matrices-reads.Asked; promise = write-matrices-reads.Post; asks-nothing = λ κs a. tt }
+
+abbrev pub read-matrices : Call
+read-matrices = record { lifetimes = 1; params = read-matrices-kinds.ps; returns = read-matrices-kinds.r; asks = read-matrices-reads.Asked; promise = read-matrices-reads.Post; asks-nothing = λ κs a. tt }
+
 -- ---- the search
 
 abbrev pub search : Call
@@ -210,6 +226,12 @@ desk-list-to-polynomial = record { lifetimes = 3; params = desk-list-to-polynomi
 
 abbrev pub desk-list-to-normal : Call
 desk-list-to-normal = record { lifetimes = 3; params = desk-list-to-normal-kinds.ps; returns = desk-list-to-normal-kinds.r; asks = desk-list-to-normal-reads.Asked; promise = desk-list-to-normal-reads.Post; asks-nothing = λ κs a. tt }
+
+abbrev pub desk-write-matrices : Call
+desk-write-matrices = record { lifetimes = 2; params = desk-write-matrices-kinds.ps; returns = desk-write-matrices-kinds.r; asks = desk-write-matrices-reads.Asked; promise = desk-write-matrices-reads.Post; asks-nothing = λ κs a. tt }
+
+abbrev pub desk-read-matrices : Call
+desk-read-matrices = record { lifetimes = 1; params = desk-read-matrices-kinds.ps; returns = desk-read-matrices-kinds.r; asks = desk-read-matrices-reads.Asked; promise = desk-read-matrices-reads.Post; asks-nothing = λ κs a. tt }
 
 abbrev pub desk-search : Call
 desk-search = record { lifetimes = 0; params = desk-search-kinds.ps; returns = desk-search-kinds.r; asks = desk-search-reads.Asked; promise = desk-search-reads.Post; asks-nothing = λ κs a. tt }

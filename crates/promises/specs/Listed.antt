@@ -1,7 +1,8 @@
 -- The numbers that each call's order has, as the documents list them, and the places that its table has for them ("Refusal numbers",
--- "Orders."; document 02, §1): every rule of the order has such a number and such a place.
+-- "Orders."; document 02, §1 and §4): every rule of the order has such a number and such a place.
 --
---   OnShape, OnValue, OnDivision, OnList, OnReading   the numbers and places of the calls on a sheet of m records
+--   OnShape, OnValue, OnDivision, OnList, OnReading, OnWriting   the numbers and places of the calls on a sheet of m records
+--   OnText                                            those of reading a text of the matrices, for f of degree n
 --   ..-listed, ..-positive                            an order has these, and none of the numbers is 0
 --   field-orders, ..-sequence                         the numbers of an order, one after another, are those that the documents list
 --
@@ -12,10 +13,15 @@ use mathlib.Core.List.{List, [], _∷_, _++_}
 use Prim.Native.Nat.{ℕ, zero, suc, _+_, _≤_, _<_}
 use native.Mathlib.Omega.{arith}
 use lib.ListN.{length, replicate}
+use Rattle.gf2.specs.Poly.{degree}
 use Rattle.refusals.specs.Verdicts.{Rule}
 use Rattle.field.specs.Refusals.{elementRule, multiplyOrder, squareOrder, traceOrder, checkOrder}
 use Rattle.sheet.specs.Record.{recordCount, conjugateIn, polynomialIn}
 use Rattle.sheet.specs.Orders.{recordRules, differRules, valueRules, listRule, zeroRule, shapeOrder, basisOrder, rebuiltFrom, buildOrder, readOrder, valueOrder, listOrder}
+use Rattle.matrices.specs.Matrices.{matricesText, lineCount}
+use Rattle.matrices.specs.Orders.{textRoomRule, matchRule, writeOrder, textOrder}
+use Rattle.matrices.specs.Judging.{basedOrder, based-listed}
+use Rattle.matrices.specs.Places.{place-most}
 use Rattle.search.specs.Answers.{searchOrder}
 use Rattle.refusals.specs.Told.{AtZero, Below, Every, numbersOf}
 use Rattle.refusals.specs.Telling.{every-append, every-also, listed-at-zero, at-zero-positive, below-positive}
@@ -61,6 +67,14 @@ OnList m l k p = AtZero (11 ∷ []) k p ⊎ (Below (4 ∷ []) l k p ⊎ OnShape 
 -- "then 2, 3, 5 .., then 10"
 abbrev pub OnReading : (m : ℕ) → ℕ → ℕ → Type 0
 OnReading m k p = AtZero (2 ∷ 3 ∷ 5 ∷ []) k p ⊎ (Below (10 ∷ []) m k p ⊎ OnShape m k p)
+
+-- "then 6"
+abbrev pub OnWriting : (m : ℕ) → ℕ → ℕ → Type 0
+OnWriting m k p = AtZero (6 ∷ []) k p ⊎ OnReading m k p
+
+-- "1, 4, 2, 3, 5, then 14 .., place the first wrong, missing or extra line": at most the n(n+1) lines are right
+abbrev pub OnText : (n : ℕ) → ℕ → ℕ → Type 0
+OnText n k p = AtZero (1 ∷ 4 ∷ 2 ∷ 3 ∷ 5 ∷ []) k p ⊎ Below (14 ∷ []) (lineCount n + 1) k p
 
 records-listed : (sheet : List ℕ) (m k i : ℕ) → i + k ≤ m → Every (Below (8 ∷ 9 ∷ []) m) (recordRules sheet i k)
 unfolding recordRules
@@ -116,6 +130,19 @@ read-listed sheet =
     (every-also (AtZero (2 ∷ 3 ∷ 5 ∷ [])) (OnReading m) (λ k p h. inl h) basis (listed-at-zero basis refl))
     (every-also (Below (10 ∷ []) m) (OnReading m) (λ k p h. inr (inl h)) differ (differ-listed sheet (rebuiltFrom sheet) m m 0 (omega arith))))
 
+pub write-listed : (sheet : List ℕ) (room : ℕ) → Every (OnWriting (recordCount sheet)) (writeOrder sheet room)
+write-listed sheet room =
+    let m : ℕ = recordCount sheet in
+    every-append (OnWriting m) (readOrder sheet) (textRoomRule m room ∷ [])
+    (every-also (OnReading m) (OnWriting m) (λ k p h. inr h) (readOrder sheet) (read-listed sheet)) (inl (inl refl, refl), tt)
+
+pub text-listed : (f a : ℕ) (text : List ℕ) → Every (OnText (degree f)) (textOrder f a text)
+text-listed f a text =
+    let n : ℕ = degree f in
+    every-append (OnText n) (basedOrder f a) (matchRule text (matricesText f n a) ∷ [])
+    (every-also (AtZero (1 ∷ 4 ∷ 2 ∷ 3 ∷ 5 ∷ [])) (OnText n) (λ k p h. inl h) (basedOrder f a) (based-listed f a))
+    (inr (inl refl, omega (arith, place-most f n a text)), tt)
+
 -- ---- no number is 0
 
 shape-positive : (m k p : ℕ) → OnShape m k p → 0 < k
@@ -139,6 +166,14 @@ pub read-positive : (m k p : ℕ) → OnReading m k p → 0 < k
 read-positive m k p (inl h) = at-zero-positive (2 ∷ 3 ∷ 5 ∷ []) refl k p h
 read-positive m k p (inr (inl h)) = below-positive (10 ∷ []) m refl k p h
 read-positive m k p (inr (inr h)) = shape-positive m k p h
+
+pub write-positive : (m k p : ℕ) → OnWriting m k p → 0 < k
+write-positive m k p (inl h) = at-zero-positive (6 ∷ []) refl k p h
+write-positive m k p (inr h) = read-positive m k p h
+
+pub text-positive : (n k p : ℕ) → OnText n k p → 0 < k
+text-positive n k p (inl h) = at-zero-positive (1 ∷ 4 ∷ 2 ∷ 3 ∷ 5 ∷ []) refl k p h
+text-positive n k p (inr h) = below-positive (14 ∷ []) (lineCount n + 1) refl k p h
 
 -- ---- the numbers one after another
 
@@ -199,3 +234,10 @@ pub read-sequence : (sheet : List ℕ) → numbersOf (readOrder sheet) ≡ 7 ∷
 read-sequence sheet =
     shape-then sheet (basisOrder (polynomialIn sheet) (recordCount sheet) (conjugateIn sheet 0) ++ differRules sheet (rebuiltFrom sheet) 0 (recordCount sheet))
     ∙ ap (λ (l : List ℕ). 7 ∷ (eightNine (recordCount sheet) ++ (2 ∷ 3 ∷ 5 ∷ l))) (tens sheet (rebuiltFrom sheet) 0 (recordCount sheet))
+
+-- "writing has those of reading a sheet, then 6"; "reading text has 1, 4, 2, 3, 5, then 14" (document 02, §4)
+pub write-sequence : (sheet : List ℕ) (room : ℕ) → numbersOf (writeOrder sheet room) ≡ numbersOf (readOrder sheet) ++ (6 ∷ [])
+write-sequence sheet room = numbers-append (readOrder sheet) (textRoomRule (recordCount sheet) room ∷ [])
+
+pub text-sequence : (f a : ℕ) (text : List ℕ) → numbersOf (textOrder f a text) ≡ 1 ∷ 4 ∷ 2 ∷ 3 ∷ 5 ∷ 14 ∷ []
+text-sequence f a text = refl

@@ -1,151 +1,148 @@
--- "Document 000 counts all n matrices T_k, so its figure is n times ours" (document 01, "What a sheet holds"), for every accepted f and
--- every normal element.
+-- The full set of matrices (document 02, §4), sentence by sentence, through the answers of the public calls and of every run of them. A sheet
+-- that reading accepts is one that build wrote (`read-exactly` in `Demand2`). That the calls give these answers: `Demand1`; what they refuse, in
+-- which order: `Refused`.
 --
---   matrixEntry f n a k i j   entry (i,j) of T_k: bit k of the normal coordinates of c_i times c_j
---   matrixOnes f n a          the number of ones in all n matrices, the figure of source document 000
---   figure-is-n-times         it is n times the complexity
+--   figure-is-n-times        "Document 000 counts all n matrices T_k, so its figure is n times ours" (document 01, "What a sheet holds")
+--   entry-from-table         entry (i,j) of T_k is t((j-i) mod n, (k-i) mod n)
+--   line-of-matrix           where in the text line i of T_k stands
+--   ones-written             "the ones written number n times our complexity"
+--   accepts-exactly          "reading accepts exactly what writing gives for them": on the sheet that build writes
+--   as-build, refused-as-build   "answering as build does"
+--   placed-exactly           "14, text does not match, place the first wrong, missing or extra line counted from 0"
+--   shared-beginning         that place counts the bytes 10 of the longest beginning that the two texts share
+--   ..-runs                  the same of the calls themselves: of every run of them
 --
--- The n numbers for one i are the table rows, turned by i places and taken in another order.
 -- Assumes nothing.
-use mathlib.Core.Path.{_≡_, refl, sym, ap, ap₂, _∙_}
-use mathlib.Core.Logic.{⊎-elim}
-use Prim.Native.Nat.{ℕ, zero, suc, _+_, _-_, _*_, _/_, _%_, _^_, _≤_, _<_}
-use native.Mathlib.Nat.{add-zero, add-comm, suc-mul, zero-mul, pow-suc, mod-lt, mod-eq-of-lt, mod-self, mod-add-mod, add-mod-right, not-suc-le-zero}
-use native.Mathlib.Numerals.{add-one}
-use native.Mathlib.Omega.{arith}
-use lib.Arith.{lt-one}
-use lib.Count.{ones, ones-step}
-use lib.ListN.{getD}
-use Rattle.gf2.specs.Numbers.{order}
-use Rattle.gf2.specs.Poly.{mulMod, Degree}
-use Rattle.field.specs.Field.{squared}
-use Rattle.field.specs.Frobenius.{squared-mulMod, squared-add, squared-fixes}
-use Rattle.field.specs.Ring.{mulMod-lt}
-use Rattle.rows.specs.Bits.{bitOf}
-use Rattle.rows.specs.Rows.{Independent}
-use Rattle.normal.specs.Normal.{conjugates, coordinates, tableRows, complexity}
-use Rattle.normal.specs.Coordinates.{coordinates-are, tableRows-at, tableRows-length}
-use Rattle.normal.specs.Halves.{total-last, complexity-total, squared-coordinates, ones-rotatedBy}
-use Rattle.normal.specs.ProductBits.{total-ext, total-none, bitOf-half, bitOf-first}
-use Rattle.normal.specs.TableProduct.{total}
-use Rattle.sheet.specs.Issuing.{based-degree, based-two, based-returns, based-free}
+use mathlib.Core.Path.{_≡_, refl, sym, ap, _∙_}
+use mathlib.Core.Logic.{_↔_}
+use mathlib.Core.List.{List, _++_}
+use Prim.Native.Nat.{ℕ, _+_, _-_, _*_, _%_, _≤_, _<_}
+use lib.ListN.{length, take, drop}
+use denote.Ref.{now}
+use Rattle.gf2.specs.Poly.{degree}
+use Rattle.refusals.specs.Answers.{refusalAt}
+use Rattle.refusals.specs.declared.answer.Refusal.{Refusal}
+use Rattle.normal.specs.Normal.{tableRows, complexity}
+use Rattle.normal.specs.TableProduct.{entry}
+use Rattle.sheet.specs.Record.{recordSize, recordCount, conjugateIn, polynomialIn, tableRowsIn}
+use Rattle.sheet.specs.Answers.{buildAnswer, builtBuffer, readAnswer}
+use Rattle.sheet.specs.Held.{table-rows}
 use Rattle.sheet.specs.Sheets.{Based}
+use Rattle.sheet.specs.declared.answer.Summary.{Summary}
+use Rattle.sheet.specs.declared.answer.Issued.the-variants as issued
+use Rattle.matrices.specs.Matrices.{matrixEntry, lineEnd, lineBytes, matricesText, matrixSize, textSize}
+use Rattle.matrices.specs.Orders.{countOf, common}
+use Rattle.matrices.specs.Answers.{textIn, writeAnswer, writtenText, textAnswer}
+use Rattle.matrices.specs.Blocks.{text-line}
+use Rattle.matrices.specs.CommonLines.{common-left, common-right, common-longest}
+use Rattle.matrices.specs.Counting.{oneByte}
+use Rattle.matrices.specs.Entries.{entry-table}
+use Rattle.matrices.specs.Exact.{given, written-front, given-degree, given-ones, Given, reading-accepts, builtSheet, write-built, reading-built}
+use Rattle.matrices.specs.Figure as figure
+use Rattle.matrices.specs.Figure.{matrixOnes}
+use Rattle.matrices.specs.Judging.{text-done-as-build, text-refused-as-build}
+use Rattle.matrices.specs.Places.{text-differs-exactly}
+use Rattle.promises.specs.Calls.{Run, write-matrices, read-matrices}
+use Rattle.promises.specs.Demand1.{write-matrices-is, read-matrices-is}
+use Rattle.promises.specs.Demand2.{accepted-sheet}
 
-unfoldable pub matrixEntry : (f n a k i j : ℕ) → ℕ
-matrixEntry f n a k i j = bitOf (coordinates f n a (mulMod f n (squared f n i a) (squared f n j a))) k
+-- ---- the matrices
 
-unfoldable pub matrixOnes : (f n a : ℕ) → ℕ
-matrixOnes f n a = total n (λ k. total n (λ i. total n (λ j. matrixEntry f n a k i j)))
+pub figure-is-n-times : (f n a : ℕ) → Based f n a → matrixOnes f n a ≡ n * complexity (tableRows f n a)
+figure-is-n-times f n a b = figure.figure-is-n-times f n a b
 
--- ---- sums: of one number, of sums, in the other order, over a cycle of indices
+module _ (sheet : List ℕ) (t : Summary) (r : readAnswer sheet ≡ issued.Done t) where
+  abbrev f : ℕ
+  f = polynomialIn sheet
 
-total-same : (m c : ℕ) → total m (λ i. c) ≡ m * c
-unfolding total
-total-same zero c = sym (zero-mul c)
-total-same (suc m) c = rw (total-same m c, suc-mul m c) (add-comm c (m * c))
+  abbrev n : ℕ
+  n = recordCount sheet
 
-total-add : (m : ℕ) (g h : ℕ → ℕ) → total m (λ i. g i + h i) ≡ total m g + total m h
-unfolding total
-total-add zero g h = refl
-total-add (suc m) g h =
-    let ih : total m (λ i. g (suc i) + h (suc i)) ≡ total m (λ i. g (suc i)) + total m (λ i. h (suc i)) = total-add m (λ i. g (suc i)) (λ i. h (suc i)) in
-    omega (arith, ih)
+  abbrev a : ℕ
+  a = conjugateIn sheet 0
 
-total-swap : (m k : ℕ) (g : ℕ → ℕ → ℕ) → total m (λ i. total k (g i)) ≡ total k (λ j. total m (λ i. g i j))
-unfolding total
-total-swap zero k g = sym (total-none k (λ j. 0) (λ j. refl))
-total-swap (suc m) k g =
-    ap (λ (x : ℕ). total k (g 0) + x) (total-swap m k (λ i. g (suc i))) ∙ sym (total-add k (g 0) (λ j. total m (λ i. g (suc i) j)))
+  -- by the table of the sheet: what the code takes an entry from
+  pub entry-from-table : (k i j : ℕ) → k < recordCount sheet → i < recordCount sheet → j < recordCount sheet
+      → matrixEntry (polynomialIn sheet) (recordCount sheet) (conjugateIn sheet 0) k i j
+      ≡ entry (tableRowsIn sheet) ((j + (recordCount sheet - i)) % recordCount sheet) ((k + (recordCount sheet - i)) % recordCount sheet)
+  entry-from-table k i j hk hi hj =
+      let s = accepted-sheet sheet t r in
+      entry-table f n a (s .based) k i j hk hi hj
+      ∙ ap (λ (rows : List ℕ). entry rows ((j + (n - i)) % n) ((k + (n - i)) % n)) (sym (table-rows f n a sheet s))
 
-turn : (m : ℕ) (h : ℕ → ℕ) → total (suc m) (λ j. h ((j + 1) % suc m)) ≡ total (suc m) h
-turn m h =
-    total-last m (λ j. h ((j + 1) % suc m))
-    ∙ ap₂ _+_
-    (total-ext m (λ j. h ((j + 1) % suc m)) (λ j. h (suc j)) (λ j l. ap h (mod-eq-of-lt {n = j + 1} (omega arith) ∙ add-one j)))
-    (ap h (ap (λ (x : ℕ). x % suc m) (add-one m) ∙ mod-self (suc m)))
-    ∙ add-comm (total m (λ j. h (suc j))) (h 0) ∙ sym (unfold total in refl)
+  -- "each row a line of n digits, .., matrices in order of k, an empty line after each"
+  pub line-of-matrix : (k i : ℕ) → k < recordCount sheet → i < recordCount sheet
+      → take (recordCount sheet + 1) (drop (k * matrixSize (recordCount sheet) + i * (recordCount sheet + 1)) (textIn sheet))
+      ≡ lineBytes (recordCount sheet) (matrixEntry (polynomialIn sheet) (recordCount sheet) (conjugateIn sheet 0) k i)
+  unfolding matricesText
+  line-of-matrix k i hk hi = text-line n (matrixEntry f n a) k i hk hi
 
-turns : (m i : ℕ) (h : ℕ → ℕ) → total (suc m) (λ j. h ((j + i) % suc m)) ≡ total (suc m) h
-turns m zero h =
-    total-ext (suc m) (λ j. h ((j + 0) % suc m)) h (λ j l. ap h (ap (λ (x : ℕ). x % suc m) (add-zero j) ∙ mod-eq-of-lt l))
-turns m (suc i) h =
-    total-ext (suc m) (λ j. h ((j + suc i) % suc m)) (λ j. h (((j + 1) % suc m + i) % suc m))
-    (λ j l. ap h (let e : j + suc i ≡ j + 1 + i = omega arith in ap (λ (x : ℕ). x % suc m) e ∙ sym (mod-add-mod (j + 1) (suc m) i)))
-    ∙ turn m (λ x. h ((x + i) % suc m)) ∙ turns m i h
+-- ---- writing
 
-total-cycle : (n : ℕ) → 1 ≤ n → (i : ℕ) (h : ℕ → ℕ) → total n (λ j. h ((j + i) % n)) ≡ total n h
-total-cycle zero pos i h = absurd (not-suc-le-zero pos)
-total-cycle (suc m) pos i h = turns m i h
+module _ (sheet buffer : List ℕ) (t : Summary) (e : writeAnswer sheet (length buffer) ≡ issued.Done t) where
+  -- the text at the front, and the bytes past it as they came
+  pub text-written : writtenText sheet buffer ≡ textIn sheet ++ drop (textSize (recordCount sheet)) buffer
+  text-written = written-front sheet buffer t e
 
--- the ones of a number are its bits, summed
-ones-total : (n v : ℕ) → v < 2 ^ n → total n (bitOf v) ≡ ones v
-unfolding total
-ones-total zero v h = rw (lt-one h) (unfold ones in refl)
-ones-total (suc n) v h =
-    let p : v < 2 ^ n * 2 = rw pow-suc at h in
-    let ih : total n (bitOf (v / 2)) ≡ ones (v / 2) = ones-total n (v / 2) (omega arith) in
-    sym (ones-step v ∙ ap₂ _+_ (sym (bitOf-first v)) (sym ih ∙ total-ext n (bitOf (v / 2)) (λ j. bitOf v (suc j)) (λ j l. bitOf-half v j)))
+  -- "the ones written number n times our complexity": n and the complexity that the call answers
+  pub ones-written : countOf oneByte (given sheet buffer) ≡ t .degree * t .complexity
+  ones-written = given-ones sheet buffer t e ∙ ap (λ (n : ℕ). n * t .complexity) (sym (given-degree sheet buffer t e))
 
--- ---- the ones of the coordinates of c_i times c_j
+-- ---- reading
 
-module _ (f n a : ℕ) (b : Based f n a) where
-  deg : Degree f n
-  deg = based-degree f n a b
+-- "reading accepts exactly what writing gives for them", and answers as build did
+module _ (f a : ℕ) (buffer : List ℕ) (t : Summary) (built : buildAnswer f a (length buffer) ≡ issued.Done t) (lent : List ℕ) (fits : textSize (degree f) ≤ length lent) where
+  pub written-as-build : writeAnswer (builtSheet f a buffer) (length lent) ≡ issued.Done t
+  written-as-build = write-built f a buffer t built lent fits
 
-  two : 2 ≤ n
-  two = based-two f n a b
+  pub accepts-exactly : (text : List ℕ) → (textAnswer f a text ≡ issued.Done t) ↔ (text ≡ given (builtSheet f a buffer) lent)
+  accepts-exactly = reading-built f a buffer t built lent fits
 
-  free : Independent (conjugates f n a) n
-  free = based-free f n a b
+-- "answering as build does", to which a buffer of 32n bytes is lent
+module _ (f a room : ℕ) (fits : recordSize * degree f ≤ room) (text : List ℕ) where
+  pub as-build : (t : Summary) → textAnswer f a text ≡ issued.Done t → buildAnswer f a room ≡ issued.Done t
+  as-build = text-done-as-build f a room fits text
 
-  back : squared f n n a ≡ a
-  back = squared-fixes f n deg two n (based-returns f n a b) a (b .below)
+  pub refused-as-build : (r : Refusal) → buildAnswer f a room ≡ issued.Refused r → textAnswer f a text ≡ issued.Refused r
+  refused-as-build = text-refused-as-build f a room fits text
 
-  -- c_j is c_(j-i), squared i times
-  conjugate-back : (i j : ℕ) → i < n → j < n → squared f n j a ≡ squared f n i (squared f n ((j + (n - i)) % n) a)
-  conjugate-back i j hi hj =
-      sym
-      (sym (squared-add f n deg i ((j + (n - i)) % n) a)
-      ∙ ⊎-elim
-      (λ (l : j < i).
-      let e : (j + (n - i)) % n ≡ j + (n - i) = mod-eq-of-lt (omega arith) in
-      let s : i + (j + (n - i)) ≡ j + n = omega arith in
-      ap (λ (x : ℕ). squared f n (i + x) a) e ∙ ap (λ (x : ℕ). squared f n x a) s ∙ squared-add f n deg j n a ∙ ap (squared f n j) back)
-      (λ (l : i ≤ j).
-      let d : ℕ = j - i in
-      let t : j + (n - i) ≡ d + n = omega arith in
-      let e : (j + (n - i)) % n ≡ d = ap (λ (x : ℕ). x % n) t ∙ add-mod-right d n ∙ mod-eq-of-lt (omega arith) in
-      let s : i + d ≡ j = omega arith in
-      ap (λ (x : ℕ). squared f n (i + x) a) e ∙ ap (λ (x : ℕ). squared f n x a) s)
-      (order j i))
+-- 14 exactly for a text that differs where nothing before it applies, and its place
+pub placed-exactly : (f a : ℕ) (text : List ℕ) (p : ℕ)
+    → (textAnswer f a text ≡ issued.Refused (refusalAt 14 p))
+    ↔ (Based f (degree f) a × (text ≡ matricesText f (degree f) a → ⊥) × (p ≡ countOf lineEnd (common text (matricesText f (degree f) a))))
+placed-exactly = text-differs-exactly
 
-  product-ones : (i j : ℕ) → i < n → j < n
-      → ones (coordinates f n a (mulMod f n (squared f n i a) (squared f n j a))) ≡ ones (getD (tableRows f n a) ((j + (n - i)) % n) 0)
-  product-ones i j hi hj =
-      let m : ℕ = (j + (n - i)) % n in
-      let hm : m < n = mod-lt (j + (n - i)) (omega (arith, two)) in
-      let y : ℕ = mulMod f n a (squared f n m a) in
-      let hy : y < 2 ^ n = mulMod-lt f n deg a (squared f n m a) in
-      let e : mulMod f n (squared f n i a) (squared f n j a) ≡ squared f n i y =
-      ap (mulMod f n (squared f n i a)) (conjugate-back i j hi hj) ∙ sym (squared-mulMod f n deg i a (squared f n m a)) in
-      ap (λ (x : ℕ). ones (coordinates f n a x)) e
-      ∙ ap ones (squared-coordinates f n deg two (based-returns f n a b) a (b .below) free i y hy)
-      ∙ ones-rotatedBy n (omega (arith, two)) i (coordinates f n a y) (coordinates-are f n deg a (b .below) free y hy .0)
-      ∙ ap ones (sym (tableRows-at f n a m hm))
+-- both lists begin with it, and no longer beginning is shared
+pub shared-beginning : (x y : List ℕ)
+    → (x ≡ common x y ++ drop (length (common x y)) x) × (y ≡ common x y ++ drop (length (common x y)) y)
+    × ((front u v : List ℕ) → x ≡ front ++ u → y ≡ front ++ v → length front ≤ length (common x y))
+shared-beginning x y = (common-left x y, common-right x y, λ front u v ex ey. rw (ex, ey) (common-longest front u v))
 
-  -- ---- the figure
+-- ---- of the calls themselves
 
-  pub figure-is-n-times : matrixOnes f n a ≡ n * complexity (tableRows f n a)
-  unfolding matrixOnes matrixEntry
-  figure-is-n-times =
-      let v : ℕ → ℕ → ℕ = λ i j. coordinates f n a (mulMod f n (squared f n i a) (squared f n j a)) in
-      let row : ℕ → ℕ = λ m. ones (getD (tableRows f n a) m 0) in
-      total-swap n n (λ k i. total n (λ j. bitOf (v i j) k))
-      ∙ total-ext n (λ i. total n (λ k. total n (λ j. bitOf (v i j) k))) (λ i. total n row)
-      (λ i hi.
-      total-swap n n (λ k j. bitOf (v i j) k)
-      ∙ total-ext n (λ j. total n (bitOf (v i j))) (λ j. row ((j + (n - i)) % n))
-      (λ j hj. ones-total n (v i j) (coordinates-are f n deg a (b .below) free _ (mulMod-lt f n deg (squared f n i a) (squared f n j a)) .0) ∙ product-ones i j hi hj)
-      ∙ total-cycle n (omega (arith, two)) (n - i) row)
-      ∙ total-same n (total n row)
-      ∙ ap (λ (x : ℕ). n * x) (sym (complexity-total (tableRows f n a) ∙ ap (λ (m : ℕ). total m row) (tableRows-length f n a)))
+module _ (c : Run write-matrices) (t : Summary) (e : c .result ≡ issued.Done t) where
+  pub writes-runs : now (c .exit .1 .0) ≡ textIn (now (c .args .0)) ++ drop (textSize (recordCount (now (c .args .0)))) (now (c .args .1 .0))
+  writes-runs = write-matrices-is c .1 ∙ text-written (now (c .args .0)) (now (c .args .1 .0)) t (sym (write-matrices-is c .0) ∙ e)
+
+  pub ones-runs : countOf oneByte (take (textSize (recordCount (now (c .args .0)))) (now (c .exit .1 .0))) ≡ t .degree * t .complexity
+  ones-runs = rw (write-matrices-is c .1) (ones-written (now (c .args .0)) (now (c .args .1 .0)) t (sym (write-matrices-is c .0) ∙ e))
+
+  -- what writing left is accepted, for the polynomial and the element that the sheet names, with the same answer
+  pub read-back-runs : (d : Run read-matrices) → d .args .0 ≡ polynomialIn (now (c .args .0)) → d .args .1 .0 ≡ conjugateIn (now (c .args .0)) 0
+      → now (d .args .1 .1 .0) ≡ take (textSize (recordCount (now (c .args .0)))) (now (c .exit .1 .0)) → d .result ≡ issued.Done t
+  read-back-runs d ef ea et =
+      let sheet : List ℕ = now (c .args .0) in
+      let buffer : List ℕ = now (c .args .1 .0) in
+      let g : Given (polynomialIn sheet) (conjugateIn sheet 0) (now (d .args .1 .1 .0)) t =
+      record { sheet = sheet; buffer = buffer; polynomial = refl; element = refl; answer = sym (write-matrices-is c .0) ∙ e; front = et ∙ ap (take (textSize (recordCount sheet))) (write-matrices-is c .1) } in
+      read-matrices-is d ∙ rw (ef, ea) (reading-accepts (polynomialIn sheet) (conjugateIn sheet 0) (now (d .args .1 .1 .0)) t .1 g)
+
+-- a run of reading is done exactly if writing gave the text, from a sheet of f and the element
+pub accepts-runs : (c : Run read-matrices) (t : Summary) → (c .result ≡ issued.Done t) ↔ Given (c .args .0) (c .args .1 .0) (now (c .args .1 .1 .0)) t
+accepts-runs c t = rw (read-matrices-is c) (reading-accepts (c .args .0) (c .args .1 .0) (now (c .args .1 .1 .0)) t)
+
+pub placed-runs : (c : Run read-matrices) (p : ℕ)
+    → (c .result ≡ issued.Refused (refusalAt 14 p))
+    ↔ (Based (c .args .0) (degree (c .args .0)) (c .args .1 .0) × (now (c .args .1 .1 .0) ≡ matricesText (c .args .0) (degree (c .args .0)) (c .args .1 .0) → ⊥)
+    × (p ≡ countOf lineEnd (common (now (c .args .1 .1 .0)) (matricesText (c .args .0) (degree (c .args .0)) (c .args .1 .0)))))
+placed-runs c p = rw (read-matrices-is c) (placed-exactly (c .args .0) (c .args .1 .0) (now (c .args .1 .1 .0)) p)

@@ -22,6 +22,8 @@ use Rattle.sheet.specs.Answers.{issueOf, buildAnswer, buildReport, builtBuffer,
 use Rattle.sheet.specs.declared.answer.Summary.{Summary}
 use Rattle.sheet.specs.declared.answer.Issued.{Issued}
 use Rattle.sheet.specs.declared.answer.Issued.the-variants as issued
+use Rattle.matrices.specs.Orders.{writeOrder, textOrder}
+use Rattle.matrices.specs.Answers.{writeAnswer, writeReport, writtenText, textAnswer, textReport}
 use Rattle.search.specs.Answers.{searchOrder, searchOf, searchAnswer, searchReport, refusedReport}
 use Rattle.search.specs.Answers as answers
 use Rattle.search.specs.Search.{ranged, Answered}
@@ -33,8 +35,8 @@ use Rattle.capi.specs.declared.answer.DeskIssued.{DeskIssued}
 use Rattle.capi.specs.declared.answer.DeskFound.{DeskFound}
 use Rattle.promises.specs.Calls as calls
 use Rattle.promises.specs.Calls.{Run}
-use Rattle.promises.specs.Exports.{desk-check-is, desk-multiply-is, desk-square-is, desk-trace-is, desk-build-is, desk-read-is, desk-to-polynomial-is, desk-to-normal-is, desk-times-is, desk-inverse-is, desk-quotient-is, desk-list-to-polynomial-is, desk-list-to-normal-is, desk-search-is}
-use Rattle.promises.specs.Listed.{OnValue, OnDivision, OnList, OnReading, multiply-listed, square-listed, trace-listed, check-listed, build-listed, search-listed, value-listed, value-positive, division-listed, division-positive, list-listed, list-positive, read-listed, read-positive}
+use Rattle.promises.specs.Exports.{desk-check-is, desk-multiply-is, desk-square-is, desk-trace-is, desk-build-is, desk-read-is, desk-to-polynomial-is, desk-to-normal-is, desk-times-is, desk-inverse-is, desk-quotient-is, desk-list-to-polynomial-is, desk-list-to-normal-is, desk-write-matrices-is, desk-read-matrices-is, desk-search-is}
+use Rattle.promises.specs.Listed.{OnValue, OnDivision, OnList, OnReading, OnWriting, OnText, multiply-listed, square-listed, trace-listed, check-listed, build-listed, search-listed, value-listed, value-positive, division-listed, division-positive, list-listed, list-positive, read-listed, read-positive, write-listed, write-positive, text-listed, text-positive}
 use Rattle.promises.specs.Refused.{issue-told, done-searched, answered-number}
 use Rattle.refusals.specs.Told.{AtZero, Every, Told, numberOf}
 use Rattle.refusals.specs.Telling.{nonzero, placed-zero, at-zero-positive, told, report-told, done-value, done-checked}
@@ -148,6 +150,18 @@ desk-list-to-normal-told c =
     rw (desk-list-to-normal-is c .0)
     (report-told _ _ (list-listed (now (c .args .0)) (now (c .args .1 .0)) (length (now (c .args .1 .1 .0)))) (list-positive (recordCount (now (c .args .0))) (length (now (c .args .1 .0)))) _ (done-checked (firstOf (normalListOrder (now (c .args .0)) (now (c .args .1 .0)) (length (now (c .args .1 .1 .0)))))) 0)
 
+-- ---- the text of the matrices
+
+pub desk-write-matrices-told : (c : Run calls.desk-write-matrices) → DeskIssuedTold (writeOrder (now (c .args .0)) (length (now (c .args .1 .0)))) (OnWriting (recordCount (now (c .args .0)))) (writeAnswer (now (c .args .0)) (length (now (c .args .1 .0)))) (c .result)
+unfolding writeAnswer writeReport
+desk-write-matrices-told c =
+    rw (desk-write-matrices-is c .0) (issue-told _ _ (write-listed (now (c .args .0)) (length (now (c .args .1 .0)))) (write-positive (recordCount (now (c .args .0)))) _)
+
+pub desk-read-matrices-told : (c : Run calls.desk-read-matrices) → DeskIssuedTold (textOrder (c .args .0) (c .args .1 .0) (now (c .args .1 .1 .0))) (OnText (degree (c .args .0))) (textAnswer (c .args .0) (c .args .1 .0) (now (c .args .1 .1 .0))) (c .result)
+unfolding textAnswer textReport
+desk-read-matrices-told c =
+    rw (desk-read-matrices-is c) (issue-told _ _ (text-listed (c .args .0) (c .args .1 .0) (now (c .args .1 .1 .0))) (text-positive (degree (c .args .0))) _)
+
 -- ---- the search
 
 pub desk-search-told : (c : Run calls.desk-search) → DeskFoundTold (searchOrder (c .args .0) (c .args .1 .0) (c .args .1 .1 .0)) (AtZero (1 ∷ 4 ∷ 12 ∷ 2 ∷ 3 ∷ [])) (searchAnswer (c .args .0) (c .args .1 .0) (c .args .1 .1 .0)) (c .result)
@@ -179,3 +193,7 @@ desk-list-to-polynomial-unchanged c h = desk-list-to-polynomial-is c .1 ∙ list
 pub desk-list-to-normal-unchanged : (c : Run calls.desk-list-to-normal) → 0 < c .result .number → now (c .exit .1 .1 .0) ≡ now (c .args .1 .1 .0)
 unfolding normalListReport normalList
 desk-list-to-normal-unchanged c h = desk-list-to-normal-is c .1 ∙ list-unchanged _ _ (now (c .args .1 .1 .0)) (rw (desk-list-to-normal-is c .0) at h)
+
+pub desk-write-matrices-unchanged : (c : Run calls.desk-write-matrices) → 0 < c .result .number → now (c .exit .1 .0) ≡ now (c .args .1 .0)
+unfolding writeReport writtenText
+desk-write-matrices-unchanged c h = desk-write-matrices-is c .1 ∙ built-unchanged _ _ _ (now (c .args .1 .0)) (rw (desk-write-matrices-is c .0) at h)
