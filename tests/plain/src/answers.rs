@@ -9,7 +9,7 @@
 pub struct Refusal {
     /// The number in the table.
     pub number: u64,
-    /// The record or list index the table speaks of, else 0.
+    /// The record, list index or line the table speaks of, else 0.
     pub place: u64,
 }
 
@@ -19,7 +19,7 @@ impl Refusal {
         Refusal { number, place: 0 }
     }
 
-    /// A refusal at a record or a list index.
+    /// A refusal at a record, a list index or a line.
     pub fn at(number: u64, place: usize) -> Refusal {
         Refusal {
             number,
@@ -48,7 +48,7 @@ pub struct Value {
     pub value: u64,
 }
 
-/// The answer of building and reading.
+/// The answer of building and reading, and of writing and reading a text.
 #[derive(Clone, Copy, Debug, Default, PartialEq, Eq)]
 pub struct Issued {
     /// The refusal's number, 0 for done.

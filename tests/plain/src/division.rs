@@ -59,7 +59,7 @@ pub fn quotient(sheet: &[u8], dividend: u64, divisor: u64) -> Value {
 }
 
 #[cfg(test)]
-mod tests {
+pub(crate) mod tests {
     use super::*;
     use crate::sheet::tests::sheet;
     use crate::{build, multiply, times, to_polynomial, MAX_DEGREE, RECORD_LENGTH};
@@ -123,7 +123,7 @@ mod tests {
     }
 
     /// The sheet of the smallest accepted f of a degree and a normal element.
-    fn some_sheet(n: u32) -> Vec<u8> {
+    pub(crate) fn some_sheet(n: u32) -> Vec<u8> {
         let f = (1 << n..).find(|f| crate::check(*f).number == 0).unwrap();
         let mut buffer = vec![0; RECORD_LENGTH * n as usize];
         let mut drawn = 1u64;

@@ -1,11 +1,11 @@
-//! Document 01, and document 02's division and grades, in plain Rust, written
-//! from their sentences alone, so that the desk's archive can be compared with
-//! something that shares no line with it.
+//! Document 01, and document 02's division, grades and full set of matrices, in
+//! plain Rust, written from their sentences alone, so that the desk's archive
+//! can be compared with something that shares no line with it.
 //!
 //! In order: [`answers`] has what the calls answer; [`polynomial`] the
 //! arithmetic; [`accepted`] the tests of f; [`basis`] the three matrices of a
-//! normal basis; [`field`], [`sheet`], [`division`], [`lists`] and [`search`] the
-//! fourteen calls.
+//! normal basis; [`field`], [`sheet`], [`division`], [`matrices`], [`lists`] and
+//! [`search`] the sixteen calls.
 //!
 //! The limits are document 01's too and stand first. Nothing here is quick on
 //! purpose. Every 64-bit number is a legal argument of every call; on a refusal
@@ -30,6 +30,7 @@ pub mod basis;
 pub mod division;
 pub mod field;
 pub mod lists;
+pub mod matrices;
 pub mod polynomial;
 pub mod search;
 pub mod sheet;
@@ -38,5 +39,6 @@ pub use answers::{Found, Issued, Refusal, Value};
 pub use division::{inverse, quotient};
 pub use field::{check, multiply, square, trace};
 pub use lists::{list_to_normal, list_to_polynomial};
+pub use matrices::{read_matrices, write_matrices};
 pub use search::search;
 pub use sheet::{build, read, times, to_normal, to_polynomial};

@@ -90,7 +90,7 @@ fn sheet_of(f: u64, basis: &Basis) -> Vec<u8> {
 }
 
 /// What building and reading answer of a basis: its element is c_0.
-fn issued(f: u64, basis: &Basis) -> Issued {
+pub(crate) fn issued(f: u64, basis: &Basis) -> Issued {
     let complexity = complexity(&basis.table);
     Issued {
         degree: basis.table.len() as u64,
@@ -124,7 +124,8 @@ pub fn read(sheet: &[u8]) -> Issued {
     compared(sheet).into()
 }
 
-fn compared(sheet: &[u8]) -> Result<Issued, Refusal> {
+/// What reading answers, or why it refuses.
+pub(crate) fn compared(sheet: &[u8]) -> Result<Issued, Refusal> {
     let rows = Rows::new(sheet)?;
     refuse_unaccepted(rows.f)?;
     let basis = Basis::new(rows.f, rows.basis.conjugates[0]).ok_or_else(|| Refusal::new(5))?;
