@@ -19,6 +19,11 @@
  *    16-23    inverse row: the normal coordinates of x^i
  *    24-31    table row: the normal coordinates of c_0 times c_i
  *
+ * The text of a basis has its n matrices T_k, k from 0 to n-1. Entry (i,j) of T_k is bit k of the
+ * normal coordinates of c_i times c_j. Row i is a line of n digits 0 and 1, j upward, ended by byte
+ * 10. The matrices stand in order of k, with an empty line after each, which is one more byte 10.
+ * So a text has n(n+1) lines and n(n(n+1)+1) bytes.
+ *
  * Every call takes any numbers. It returns 0 in `number` if it is done, else the number of the
  * first refusal in the call's order that applies:
  *
@@ -30,7 +35,8 @@
  *    4       an element, a coordinate number or an end of a range is   the first such index
  *            2^n or more                                               in a list, else 0
  *    5       the element is not normal                                 0
- *    6       the buffer to be written is shorter than 32n bytes        0
+ *    6       the buffer to be written is shorter than 32n bytes for    0
+ *            a sheet, n(n(n+1)+1) for a text
  *    7       the sheet's length is not 32 times a count of 2 to 46     0
  *    8       a record's degree is not the number of records, its row   the record
  *            number is not its place, or its bytes 2-7 differ from
@@ -41,13 +47,15 @@
  *    11      the lengths of the two lists differ, or exceed 4,096      0
  *    12      the first of the range is greater than the last           0
  *    13      the divisor, or the number to invert, is zero             0
+ *    14      the text does not match: it is not what writing gives     the first wrong, missing
+ *            for f and the element                                     or extra line, from 0
  *
  * In a call's order "the shape" stands for: 7; then, for each record from 0 upward, 8 before 9.
  *
  * A call that is done has place 0. A refusal has zeros in all but number and place, and all memory
  * that the call borrowed is unchanged.
  *
- * Besides the fourteen calls, desk_number_of and desk_polynomial_of say what a typed word means, as
+ * Besides the sixteen calls, desk_number_of and desk_polynomial_of say what a typed word means, as
  * the command line reads it. They refuse nothing: a word is clear or unclear.
  *
  * What the caller must do:
@@ -55,13 +63,14 @@
  *     compiler may assume that the pointer of a slice is not null. At length 0 any other aligned
  *     address will do: no byte there is read or written.
  *   - A pointer is aligned for its type and valid for its length: for reading if it is `const`,
- *     else for reading and writing. Lengths are in bytes for a sheet, a buffer and a word, in
- *     values for a list.
- *   - Memory that a call writes (`buffer`, `into`) overlaps nothing else that the same call
- *     borrows, neither a sheet nor `from`. So no list is converted in place, with `from` and `into`
- *     the same: the proof speaks of two separate memories, and the compiler may rely on that.
- *     Convert into a second list.
- *   - While the call runs, nothing else writes memory that it borrows, or reads `buffer` or `into`.
+ *     else for reading and writing. Lengths are in bytes for a sheet, a buffer, a text and a word,
+ *     in values for a list.
+ *   - Memory that a call writes (`buffer`, `into`, a `text` that is not `const`) overlaps nothing
+ *     else that the same call borrows, neither a sheet nor `from`. So no list is converted in
+ *     place, with `from` and `into` the same: the proof speaks of two separate memories, and the
+ *     compiler may rely on that. Convert into a second list.
+ *   - While the call runs, nothing else writes memory that it borrows, or reads memory that it
+ *     writes.
  *   - The stack has room: SABRENTUGLIO_STACK below.
  * No call keeps a pointer, allocates, or has state of its own. Within these rules several calls may
  * run at the same time.
@@ -75,15 +84,16 @@
 #include <stdint.h>
 
 /* The version of the product, which the archive, the command line and the Rust crate share. */
-#define SABRENTUGLIO_VERSION "2.0.0"
+#define SABRENTUGLIO_VERSION "2.1.0"
 
 /*
  * The bytes of stack that a call may take, rounded up from a measurement, bindings/c/stack.c: no
  * call takes more than the first, and no call but desk_search more than the second. Measured were
  * 67 KiB for desk_search, 14 for the two that convert a list and for desk_times, desk_inverse and
- * desk_quotient, 9 for desk_read, 8 for desk_build and less than 1 for each of the others. The
- * amount does not grow with a range or a list. It includes memcpy and memset of the C library, and
- * not the dynamic linker, which may look them up at the first call.
+ * desk_quotient, 11 for desk_write_matrices, 9 for desk_read, 8 for desk_build and
+ * desk_read_matrices and less than 1 for each of the others. The amount does not grow with a range,
+ * a list or a text. It includes memcpy and memset of the C library, and not the dynamic linker,
+ * which may look them up at the first call.
  */
 #define SABRENTUGLIO_STACK 73728
 #define SABRENTUGLIO_STACK_BUT_SEARCH 16384
@@ -100,9 +110,10 @@ typedef struct desk_value {
 } desk_value;
 
 /*
- * The result of desk_build and desk_read: the degree n, and the complexity and grade of the basis.
- * The complexity is the number of ones in the n table rows. A basis of complexity 2n-1 is optimal:
- * grade 1 says of the first kind, 2 of the second kind, 3 of both.
+ * The result of desk_build, desk_read, desk_write_matrices and desk_read_matrices: the degree n,
+ * and the complexity and grade of the basis. The complexity is the number of ones in the n table
+ * rows; the text of the basis has n times as many. A basis of complexity 2n-1 is optimal: grade 1
+ * says of the first kind, 2 of the second kind, 3 of both.
  *
  *    grade   given exactly when
  *    0       the complexity is not 2n-1
@@ -246,6 +257,27 @@ desk_value desk_inverse(const uint8_t *sheet, size_t length, uint64_t a);
  * Refusals in order: the shape, 4, 13.
  */
 desk_value desk_quotient(const uint8_t *sheet, size_t length, uint64_t dividend, uint64_t divisor);
+
+/*
+ * Writes the text of the sheet's basis into the first n(n(n+1)+1) bytes of `text`, and returns
+ * degree, complexity and grade. It reads the sheet as desk_read does, and refuses what that call
+ * refuses. Bytes after the text are unchanged; on a refusal all bytes are. 99,498 bytes are enough
+ * for every sheet. No zero byte is written at the end.
+ * Refusals in order: the shape, 2 and 3 for the sheet's polynomial, 5 for the conjugate of its
+ * record 0, 10, 6.
+ */
+desk_issued desk_write_matrices(const uint8_t *sheet, size_t length, uint8_t *text, size_t text_length);
+
+/*
+ * Returns degree, complexity and grade of the basis of f and the element, if the text is that of
+ * the basis. It is done exactly for the text that desk_write_matrices writes on the sheet of f and
+ * the element, at its own length. Any bytes of any length are a legal text. Writes nothing.
+ * Refusals in order: 1, 4, 2, 3, 5, 14. The place of 14 is the number of bytes 10 in the longest
+ * common beginning of the text and the right one. So a line without its byte 10 is a wrong line, a
+ * right text that ends after line 4 misses line 5, and anything after the whole right text is an
+ * extra line, line n(n+1).
+ */
+desk_issued desk_read_matrices(uint64_t f, uint64_t element, const uint8_t *text, size_t text_length);
 
 /*
  * Returns the normal basis of least complexity among the class leaders from first to last, both

@@ -12,7 +12,7 @@
 
 #include "sabrentuglio.h"
 
-enum { ROOM = 1 << 17, LIMIT = 46, LIST = 4096, SHEET = 32 * LIMIT };
+enum { ROOM = 1 << 17, LIMIT = 46, LIST = 4096, SHEET = 32 * LIMIT, TEXT = LIMIT * (LIMIT * (LIMIT + 1) + 1) };
 
 static unsigned char stack[ROOM] __attribute__((aligned(16)));
 
@@ -22,6 +22,8 @@ static uint8_t sheet[SHEET];
 static size_t length;
 static uint64_t from[LIST + 1], into[LIST + 1];
 static size_t count;
+static uint8_t text[TEXT];
+static size_t text_length;
 static const char *word;
 static uint64_t number;
 
@@ -39,11 +41,13 @@ static void inverse(void) { number = desk_inverse(sheet, length, a).number; }
 static void quotient(void) { number = desk_quotient(sheet, length, a, b).number; }
 static void list_to_polynomial(void) { number = desk_list_to_polynomial(sheet, length, from, count, into, count).number; }
 static void list_to_normal(void) { number = desk_list_to_normal(sheet, length, from, count, into, count).number; }
+static void write_matrices(void) { number = desk_write_matrices(sheet, length, text, text_length).number; }
+static void read_matrices(void) { number = desk_read_matrices(f, a, text, text_length).number; }
 static void number_of(void) { number = !desk_number_of((const uint8_t *)word, strlen(word)).clear; }
 static void polynomial_of(void) { number = !desk_polynomial_of((const uint8_t *)word, strlen(word)).clear; }
 
 enum { CHECK, MULTIPLY, SQUARE, TRACE, SEARCH, BUILD, READ, TO_POLYNOMIAL, TO_NORMAL, TIMES, INVERSE, QUOTIENT, LIST_TO_POLYNOMIAL,
-       LIST_TO_NORMAL, NUMBER_OF, POLYNOMIAL_OF, CALLS };
+       LIST_TO_NORMAL, WRITE_MATRICES, READ_MATRICES, NUMBER_OF, POLYNOMIAL_OF, CALLS };
 
 static struct {
     const char *name;
@@ -65,6 +69,8 @@ static struct {
     {"desk_quotient", quotient, 0, 0, 0},
     {"desk_list_to_polynomial", list_to_polynomial, 0, 0, 0},
     {"desk_list_to_normal", list_to_normal, 0, 0, 0},
+    {"desk_write_matrices", write_matrices, 0, 0, 0},
+    {"desk_read_matrices", read_matrices, 0, 0, 0},
     {"desk_number_of", number_of, 0, 0, 0},
     {"desk_polynomial_of", polynomial_of, 0, 0, 0},
 };
@@ -108,13 +114,29 @@ static void measure_numbers(int degree) {
     a = size - 1;
     b = size - 2;
     for (int call = CHECK; call <= TRACE; call++) measure(call);
+    measure(READ_MATRICES);
     a = size;
     for (int call = MULTIPLY; call <= TRACE; call++) measure(call);
+    measure(READ_MATRICES);
     a = 0;
     b = size - 1 < 400 ? size - 1 : 400;
     measure(SEARCH);
     a = b + 1;
     measure(SEARCH);
+}
+
+/* The text of the sheet of f and the element a: written, read, spoiled in its last line, and too short. */
+static void measure_text(int degree) {
+    size_t n = (size_t)degree, size = n * (n * (n + 1) + 1);
+    text_length = TEXT;
+    measure(WRITE_MATRICES);
+    text_length = size;
+    measure(READ_MATRICES);
+    text[size - 1] ^= 1;
+    measure(READ_MATRICES);
+    text_length = size - 1;
+    measure(READ_MATRICES);
+    measure(WRITE_MATRICES);
 }
 
 /* The calls on the sheet of f and a normal element; the list has the most values. */
@@ -125,6 +147,7 @@ static void measure_sheet(int degree, uint64_t element) {
     measure(BUILD);
     length = 32 * (size_t)degree;
     measure(READ);
+    measure_text(degree);
     b = size - 1;
     for (int call = TO_POLYNOMIAL; call <= QUOTIENT; call++) measure(call);
     count = LIST;
@@ -138,12 +161,14 @@ static void measure_sheet(int degree, uint64_t element) {
     for (int call = TO_POLYNOMIAL; call <= QUOTIENT; call++) measure(call);
     a = b = 0;
     for (int call = INVERSE; call <= QUOTIENT; call++) measure(call);
-    sheet[length - 1] ^= 1;
-    measure(READ);
     sheet[length - 8] ^= 1;
     measure(READ);
+    measure(WRITE_MATRICES);
+    sheet[length - 1] ^= 1;
+    measure(READ);
+    measure(WRITE_MATRICES);
     length--;
-    for (int call = READ; call <= LIST_TO_NORMAL; call++) measure(call);
+    for (int call = READ; call <= WRITE_MATRICES; call++) measure(call);
 }
 
 /* The polynomial of the degree, from f on, that is accepted first. */
@@ -166,6 +191,7 @@ static void measure_field(int degree) {
     a = 0;
     length = SHEET;
     measure(BUILD);
+    measure(READ_MATRICES);
     measure_sheet(degree, normal_element(degree));
     a = normal_element(degree);
     length = 32 * (size_t)degree - 1;

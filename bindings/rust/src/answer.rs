@@ -87,7 +87,8 @@ impl TryFrom<u64> for Grade {
     }
 }
 
-/// What building and reading a sheet answer.
+/// What building and reading a sheet answer, and writing and reading the text
+/// of all matrices.
 #[derive(Clone, Copy, Debug, PartialEq, Eq, Hash)]
 pub struct Summary {
     /// The degree n of f, and so the number of records.

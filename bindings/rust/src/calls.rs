@@ -1,4 +1,5 @@
-//! The fourteen calls one to one, with results; buffers and lists are lent.
+//! The calls one to one, with results; buffers and lists are lent. The two on
+//! the text of all matrices are in `matrices`.
 //!
 //! Each names its refusals in the order in which they are tested.
 

@@ -10,15 +10,15 @@
 //! project's build description, document 01, and the requests of document 02
 //! that are built; this crate only hands calls over.
 //! [`Sheet`] owns a sheet that the desk built or accepted. The functions are
-//! the fourteen calls one to one, over slices that you lend: [`check`],
+//! the sixteen calls one to one, over slices that you lend: [`check`],
 //! [`multiply`], [`square`], [`trace`], [`build`], [`read`], [`to_polynomial`],
 //! [`to_normal`], [`list_to_polynomial`], [`list_to_normal`], [`times`],
-//! [`inverse`], [`quotient`], [`search`]. [`raw`] has the same with the answers
-//! as flat numbers. [`Polynomial`] parses what a designer types, as the command
-//! line does.
+//! [`inverse`], [`quotient`], [`write_matrices`], [`read_matrices`], [`search`].
+//! [`raw`] has the same with the answers as flat numbers. [`Polynomial`] parses
+//! what a designer types, as the command line does.
 //!
 //! Every number is a legal argument. What the desk does not do it refuses, with
-//! a [`Refusal`], and then every buffer and list stays as it came.
+//! a [`Refusal`], and then every buffer, list and text stays as it came.
 //!
 //! Refusals and grades carry the documents' numbers. [`Reason`] and [`Grade`]
 //! have the names of those that this version knows.
@@ -43,6 +43,7 @@
 mod answer;
 mod calls;
 mod lists;
+mod matrices;
 pub mod raw;
 mod refusal;
 mod rows;
@@ -54,6 +55,7 @@ pub use calls::{
     build, check, inverse, list_to_normal, list_to_polynomial, multiply, quotient, read, search,
     square, times, to_normal, to_polynomial, trace,
 };
+pub use matrices::{matrices_size, read_matrices, write_matrices};
 pub use refusal::{Reason, Refusal, UnknownNumber};
 pub use rows::{Row, Rows};
 pub use sheet::Sheet;

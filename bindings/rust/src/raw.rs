@@ -26,8 +26,8 @@ pub struct Value {
     pub value: u64,
 }
 
-/// The answer of building and reading a sheet; on a refusal the last three are
-/// zero.
+/// The answer of building and reading a sheet, and of writing and reading the
+/// text of all matrices; on a refusal the last three are zero.
 #[repr(C)]
 #[derive(Clone, Copy, Debug, Default, PartialEq, Eq)]
 pub struct Issued {
@@ -100,6 +100,13 @@ extern "C" {
     fn desk_times(sheet: *const u8, length: usize, a: u64, b: u64) -> Value;
     fn desk_inverse(sheet: *const u8, length: usize, a: u64) -> Value;
     fn desk_quotient(sheet: *const u8, length: usize, dividend: u64, divisor: u64) -> Value;
+    fn desk_write_matrices(
+        sheet: *const u8,
+        length: usize,
+        text: *mut u8,
+        text_length: usize,
+    ) -> Issued;
+    fn desk_read_matrices(f: u64, element: u64, text: *const u8, text_length: usize) -> Issued;
     fn desk_search(f: u64, first: u64, last: u64) -> Found;
     fn desk_number_of(word: *const u8, length: usize) -> Word;
     fn desk_polynomial_of(word: *const u8, length: usize) -> Word;
@@ -203,6 +210,21 @@ pub fn inverse(sheet: &[u8], a: u64) -> Value {
 pub fn quotient(sheet: &[u8], dividend: u64, divisor: u64) -> Value {
     // SAFETY: as in `read`.
     unsafe { desk_quotient(sheet.as_ptr(), sheet.len(), dividend, divisor) }
+}
+
+/// `desk_write_matrices`: writes the text of all matrices into the first
+/// n(n(n+1)+1) bytes of `text`.
+pub fn write_matrices(sheet: &[u8], text: &mut [u8]) -> Issued {
+    // SAFETY: both go over with their own lengths, the sheet for reading, the
+    // text for writing; as slices they do not overlap. An empty one is a
+    // dangling pointer, which is not followed at length 0.
+    unsafe { desk_write_matrices(sheet.as_ptr(), sheet.len(), text.as_mut_ptr(), text.len()) }
+}
+
+/// `desk_read_matrices`: whether the text is that of f and the element.
+pub fn read_matrices(f: u64, element: u64, text: &[u8]) -> Issued {
+    // SAFETY: as in `read`.
+    unsafe { desk_read_matrices(f, element, text.as_ptr(), text.len()) }
 }
 
 /// `desk_search`: the best normal leader from first to last.

@@ -1,12 +1,12 @@
 //! What the desk says where it does not do as asked: [`Refusal`], with a number
-//! of document 01's refusal table, to which document 02's division adds 13, and
+//! of document 01's refusal table, to which document 02 adds 13 and 14, and
 //! [`Reason`], the names of those numbers.
 
 use std::error::Error;
 use std::fmt;
 
 /// The conditions of the refusal table, each with its number there: 1 to 12 of
-/// document 01, and 13 of document 02's division.
+/// document 01, 13 of document 02's division, 14 of its full set of matrices.
 ///
 /// The table can get further numbers and leave some unused, so a number has a
 /// name only where [`Reason::try_from`] knows one.
@@ -33,7 +33,8 @@ pub enum Reason {
     TooLarge = 4,
     /// 5: the element is not normal.
     NotNormal = 5,
-    /// 6: the buffer to be written is shorter than 32n bytes.
+    /// 6: the buffer to be written is shorter than 32n bytes for a sheet,
+    /// n(n(n+1)+1) for a text.
     BufferLength = 6,
     /// 7: the length of the sheet is not 32 times a count of 2 to 46.
     SheetLength = 7,
@@ -50,6 +51,9 @@ pub enum Reason {
     RangeOrder = 12,
     /// 13: the divisor, or the number to invert, is zero.
     DivisionByZero = 13,
+    /// 14: the text does not match: it is not what writing gives for f and the
+    /// element. The place is the first wrong, missing or extra line.
+    TextDiffers = 14,
 }
 
 impl Reason {
@@ -68,6 +72,7 @@ impl Reason {
         Reason::ListLength,
         Reason::RangeOrder,
         Reason::DivisionByZero,
+        Reason::TextDiffers,
     ];
 
     /// The number in the table.
@@ -83,7 +88,10 @@ impl Reason {
             Reason::Squaring => "repeated squaring n times does not return x",
             Reason::TooLarge => "an element, coordinate number or range end is 2^n or more",
             Reason::NotNormal => "the element is not normal",
-            Reason::BufferLength => "the buffer to be written is shorter than 32n bytes",
+            Reason::BufferLength => {
+                "the buffer to be written is shorter than 32n bytes for a sheet, \
+                 n(n(n+1)+1) for a text"
+            }
             Reason::SheetLength => "the sheet length is not 32 times a count of 2 to 46",
             Reason::RecordHead => {
                 "the record's degree is not the record count, its row number is not its place, \
@@ -94,6 +102,9 @@ impl Reason {
             Reason::ListLength => "the list lengths differ or exceed 4,096",
             Reason::RangeOrder => "the first of the range is greater than the last",
             Reason::DivisionByZero => "the divisor, or the number to invert, is zero",
+            Reason::TextDiffers => {
+                "the text does not match: it is not what writing gives for f and the element"
+            }
         }
     }
 }
@@ -133,7 +144,7 @@ impl fmt::Display for UnknownNumber {
 
 impl Error for UnknownNumber {}
 
-/// A refused call. Every buffer and list it was lent stays as it came.
+/// A refused call. Every buffer, list and text it was lent stays as it came.
 ///
 /// ```
 /// use sabrentuglio::{check, Reason};
@@ -151,8 +162,8 @@ pub struct Refusal {
     /// The number in the table: the first condition of the call's order that
     /// applied.
     pub number: u64,
-    /// The record or the list index at fault, where the table names one;
-    /// else 0.
+    /// The record, the list index or the line at fault, where the table names
+    /// one; else 0.
     pub place: usize,
 }
 
@@ -192,11 +203,11 @@ mod tests {
     #[test]
     fn numbers_are_those_of_the_table() {
         let numbers: Vec<u64> = Reason::ALL.iter().map(|reason| reason.number()).collect();
-        assert_eq!(numbers, [1, 2, 3, 4, 5, 6, 7, 8, 9, 10, 11, 12, 13]);
+        assert_eq!(numbers, [1, 2, 3, 4, 5, 6, 7, 8, 9, 10, 11, 12, 13, 14]);
         for reason in Reason::ALL {
             assert_eq!(Reason::try_from(u64::from(*reason)), Ok(*reason));
         }
-        for number in [0, 14, 24, u64::MAX] {
+        for number in [0, 15, 24, u64::MAX] {
             assert_eq!(Reason::try_from(number), Err(UnknownNumber(number)));
         }
     }

@@ -6,8 +6,8 @@
 //! met. The seed is printed; DESK_SEED sets it, so that a run can be repeated.
 //!
 //! In `compare/`: `random` draws numbers, `fields` finds polynomials and
-//! sheets, `damage` spoils sheets, `lent` watches lent memory, `pair` asks both
-//! sides, `tally` counts; the others are the groups.
+//! sheets, `damage` spoils sheets and `texts` texts, `lent` watches lent memory,
+//! `pair` asks both sides, `tally` counts; the others are the groups.
 
 #[path = "compare/building.rs"]
 mod building;
@@ -25,6 +25,8 @@ mod lengths;
 mod lent;
 #[path = "compare/lists.rs"]
 mod lists;
+#[path = "compare/matrices.rs"]
+mod matrices;
 #[path = "compare/pair.rs"]
 mod pair;
 #[path = "compare/polynomials.rs"]
@@ -39,6 +41,8 @@ mod results;
 mod searching;
 #[path = "compare/tally.rs"]
 mod tally;
+#[path = "compare/texts.rs"]
+mod texts;
 
 use fields::Fields;
 use pair::Pair;
@@ -50,7 +54,7 @@ use std::time::Instant;
 /// The name of a group and what runs it.
 type Group = (&'static str, fn(&mut Pair, &mut Random, &Fields));
 
-const GROUPS: [Group; 9] = [
+const GROUPS: [Group; 10] = [
     ("polynomials", polynomials::run),
     ("building", building::run),
     ("reading", reading::run),
@@ -60,6 +64,7 @@ const GROUPS: [Group; 9] = [
     ("causes", causes::run),
     ("results", results::run),
     ("dividing", dividing::run),
+    ("matrices", matrices::run),
 ];
 
 /// The seed of a run that names none: the same run each time.

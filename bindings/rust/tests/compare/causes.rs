@@ -5,7 +5,7 @@ use crate::damage::{damaged, invented};
 use crate::fields::{polynomial, wrong_degree, Fields, WIDEST};
 use crate::pair::Pair;
 use crate::random::Random;
-use sabrentuglio::RECORD_LENGTH;
+use sabrentuglio::{matrices_size, RECORD_LENGTH};
 
 /// Runs the group.
 pub fn run(pair: &mut Pair, random: &mut Random, fields: &Fields) {
@@ -31,7 +31,7 @@ fn any_polynomial(random: &mut Random, fields: &Fields) -> (u64, u32) {
 fn on_polynomials(pair: &mut Pair, random: &mut Random, fields: &Fields) {
     let (f, n) = any_polynomial(random, fields);
     let (a, b) = (random.operand(n), random.operand(n));
-    match random.below(6) {
+    match random.below(7) {
         0 => pair.check(f),
         1 => pair.multiply(f, a, b),
         2 => pair.square(f, a),
@@ -40,6 +40,10 @@ fn on_polynomials(pair: &mut Pair, random: &mut Random, fields: &Fields) {
             let room = random.index(2 * RECORD_LENGTH * n as usize);
             let buffer = random.bytes(room);
             pair.build(f, a, &buffer);
+        }
+        5 => {
+            let length = random.index(60);
+            pair.read_matrices(f, a, &random.bytes(length));
         }
         _ => {
             // A range that is long only where it is refused.
@@ -72,13 +76,17 @@ fn any_sheet(random: &mut Random, fields: &Fields) -> (Vec<u8>, u32) {
 fn on_sheets(pair: &mut Pair, random: &mut Random, fields: &Fields) {
     let (sheet, n) = any_sheet(random, fields);
     let (a, b) = (random.operand(n), random.operand(n));
-    match random.below(7) {
+    match random.below(8) {
         0 => pair.read(&sheet),
         1 => pair.to_polynomial(&sheet, a),
         2 => pair.to_normal(&sheet, a),
         3 => pair.times(&sheet, a, b),
         4 => pair.inverse(&sheet, a),
         5 => pair.quotient(&sheet, a, b),
+        6 => {
+            let room = random.index(2 * matrices_size(n as usize));
+            pair.write_matrices(&sheet, &vec![random.number() as u8; room]);
+        }
         _ => {
             let count = random.index(5);
             let room = match random.once_in(2) {

@@ -47,6 +47,9 @@ pub const TAIL: Column = COLUMNS[2];
 /// The column with the conjugate row.
 pub const CONJUGATE: Column = COLUMNS[3];
 
+/// The column with the table row.
+pub const TABLE: Column = COLUMNS[5];
+
 /// Puts a number into a column of a record.
 pub fn put(sheet: &mut [u8], record: usize, column: Column, number: u64) {
     let start = RECORD_LENGTH * record + column.first;

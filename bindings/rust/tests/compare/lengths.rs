@@ -49,4 +49,5 @@ fn every_call(pair: &mut Pair, random: &mut Random, sheet: &[u8]) {
     let count = random.index(3);
     let (from, into) = (random.elements(2, count), random.elements(WIDEST, count));
     pair.lists(sheet, &from, &into);
+    pair.write_matrices(sheet, &random.bytes(count));
 }

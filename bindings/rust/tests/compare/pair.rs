@@ -209,6 +209,36 @@ impl Pair {
         });
     }
 
+    /// Writes the text of all matrices into a buffer that comes with this
+    /// content. Returns the answer of both.
+    pub fn write_matrices(&mut self, sheet: &[u8], text: &[u8]) -> plain::Issued {
+        let call = Call::WriteMatrices;
+        let inputs = || format!("room for {} bytes, sheet {}", text.len(), hex(sheet));
+        let mut lent = Lent::new(text, BYTE_MARGIN, self.asked);
+        let desk = self.on_sheet(call, sheet, |s| raw::write_matrices(s, lent.write()));
+        let mut expected = text.to_vec();
+        let plain = plain::write_matrices(sheet, &mut expected);
+        self.settle_issued(call, desk, plain, inputs);
+        if let Some(fault) = lent.fault(&expected) {
+            self.fail(call, &inputs(), &fault);
+        }
+        plain
+    }
+
+    /// Reads a text for f and an element. Returns the answer of both.
+    pub fn read_matrices(&mut self, f: u64, element: u64, text: &[u8]) -> plain::Issued {
+        let call = Call::ReadMatrices;
+        let inputs = || format!("f {}, element {}, text {}", f, element, hex(text));
+        let lent = Lent::new(text, BYTE_MARGIN, self.asked);
+        let desk = raw::read_matrices(f, element, lent.read());
+        let plain = plain::read_matrices(f, element, text);
+        self.settle_issued(call, desk, plain, inputs);
+        if let Some(fault) = lent.fault(text) {
+            self.fail(call, &inputs(), &fault);
+        }
+        plain
+    }
+
     /// Converts a list both ways into a list that comes with this content.
     pub fn lists(&mut self, sheet: &[u8], from: &[u64], into: &[u64]) {
         let ways: [(Call, RawList, PlainList); 2] = [

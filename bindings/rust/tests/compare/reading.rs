@@ -1,4 +1,5 @@
-//! Reading, converting, multiplying and dividing on sheets good and bad.
+//! Reading, converting, multiplying and dividing on sheets good and bad, and
+//! writing their texts.
 
 use crate::damage::{
     damaged, enlarge, flip, flip_in, invented, put, rearranged, refound, renumber, COLUMNS,
@@ -28,7 +29,8 @@ pub fn run(pair: &mut Pair, random: &mut Random, fields: &Fields) {
     }
 }
 
-/// All calls on single values, once.
+/// All calls on a sheet but those on lists, once. Only a text of degree 2 or 3
+/// has room.
 fn ask(pair: &mut Pair, random: &mut Random, n: u32, sheet: &[u8]) {
     pair.read(sheet);
     pair.to_polynomial(sheet, random.operand(n));
@@ -36,6 +38,8 @@ fn ask(pair: &mut Pair, random: &mut Random, n: u32, sheet: &[u8]) {
     pair.times(sheet, random.operand(n), random.operand(n));
     pair.inverse(sheet, random.operand(n));
     pair.quotient(sheet, random.operand(n), random.operand(n));
+    let room = random.index(60);
+    pair.write_matrices(sheet, &random.bytes(room));
 }
 
 /// Sheets that the builder wrote, with operands of every kind.

@@ -7,7 +7,8 @@ use crate::damage::damaged;
 use crate::fields::{Field, Fields};
 use crate::pair::Pair;
 use crate::random::Random;
-use sabrentuglio::{raw, Reason, Refusal, Sheet, Summary, MAX_DEGREE, RECORD_LENGTH};
+use sabrentuglio::{matrices_size, raw, Reason, Refusal, Sheet, Summary};
+use sabrentuglio::{MAX_DEGREE, RECORD_LENGTH};
 use std::fmt::Debug;
 
 /// Runs the group.
@@ -17,6 +18,7 @@ pub fn run(pair: &mut Pair, random: &mut Random, fields: &Fields) {
             polynomials(pair, random, *f, field.n);
         }
         sheets(pair, random, field);
+        texts(pair, random, field);
         lent(random, field);
         owned(random, field);
     }
@@ -42,6 +44,12 @@ fn same<T: PartialEq + Debug>(
 fn same_value(result: Result<u64, Refusal>, flat: raw::Value, asked: (&str, &[u64])) {
     let at = (flat.number, flat.place);
     same(result, at, |value| *value == flat.value, asked);
+}
+
+fn same_issued(result: Result<Summary, Refusal>, flat: raw::Issued, asked: (&str, &[u64])) {
+    let whole = (flat.degree, flat.complexity, flat.grade);
+    let fits = |s: &Summary| (s.degree, s.complexity, s.grade) == whole && s.kind().is_some();
+    same(result, (flat.number, flat.place), fits, asked);
 }
 
 fn polynomials(pair: &mut Pair, random: &mut Random, f: u64, n: u32) {
@@ -103,13 +111,9 @@ fn sheets(pair: &mut Pair, random: &mut Random, field: &Field) {
     products(pair, &sheet, a, b);
     pair.read(&sheet);
     let flat = raw::read(&sheet);
-    let at = (flat.number, flat.place);
-    let whole = (flat.degree, flat.complexity, flat.grade);
-    let result = sabrentuglio::read(&sheet);
-    let fits = |s: &Summary| (s.degree, s.complexity, s.grade) == whole && s.kind().is_some();
-    same(result, at, fits, ("read", &[]));
-    let result = Sheet::read(&sheet[..]);
-    same(result, at, |s| fits(&s.summary()), ("Sheet::read", &[]));
+    same_issued(sabrentuglio::read(&sheet), flat, ("read", &[]));
+    let result = Sheet::read(&sheet[..]).map(|sheet| sheet.summary());
+    same_issued(result, flat, ("Sheet::read", &[]));
 }
 
 fn products(pair: &mut Pair, sheet: &[u8], a: u64, b: u64) {
@@ -133,6 +137,25 @@ fn products(pair: &mut Pair, sheet: &[u8], a: u64, b: u64) {
     );
 }
 
+/// Writing a text, and reading it for some element.
+fn texts(pair: &mut Pair, random: &mut Random, field: &Field) {
+    let basis = field.any(random);
+    let exact = matrices_size(field.n as usize);
+    let room = exact - random.index(2);
+    let mut texts = [vec![9; room], vec![9; room]];
+    pair.write_matrices(&basis.sheet, &texts[0]);
+    let flat = raw::write_matrices(&basis.sheet, &mut texts[0]);
+    let result = sabrentuglio::write_matrices(&basis.sheet, &mut texts[1]);
+    same_issued(result, flat, ("write_matrices", &[room as u64]));
+    assert_eq!(texts[0], texts[1]);
+    let other = random.operand(field.n);
+    let element = random.pick(&[basis.element, other]);
+    pair.read_matrices(basis.f, element, &texts[0]);
+    let flat = raw::read_matrices(basis.f, element, &texts[0]);
+    let result = sabrentuglio::read_matrices(basis.f, element, &texts[0]);
+    same_issued(result, flat, ("read_matrices", &[basis.f, element]));
+}
+
 /// Building and lists through lent memory say and leave the same.
 fn lent(random: &mut Random, field: &Field) {
     let basis = field.any(random);
@@ -140,10 +163,7 @@ fn lent(random: &mut Random, field: &Field) {
     let mut buffers = [[9; RECORD_LENGTH * MAX_DEGREE]; 2];
     let flat = raw::build(basis.f, element, &mut buffers[0]);
     let result = sabrentuglio::build(basis.f, element, &mut buffers[1]);
-    let whole = (flat.degree, flat.complexity, flat.grade);
-    let fits = |s: &Summary| (s.degree, s.complexity, s.grade) == whole && s.kind().is_some();
-    let at = (flat.number, flat.place);
-    same(result, at, fits, ("build", &[basis.f, element]));
+    same_issued(result, flat, ("build", &[basis.f, element]));
     assert_eq!(buffers[0], buffers[1]);
     let from = [random.element(field.n), random.operand(field.n)];
     let (sheet, mut into) = (&basis.sheet, [[9; 2]; 4]);
@@ -179,6 +199,9 @@ fn owned(random: &mut Random, field: &Field) {
         assert_eq!(twice.and_then(|v| sheet.to_polynomial(v)), Ok(square));
         divided(random, field.n, &sheet, coordinates);
     }
+    let mut text = vec![0; matrices_size(field.n as usize)];
+    plain::write_matrices(&basis.sheet, &mut text);
+    assert_eq!(sheet.matrices().as_bytes(), text);
     let refusal = sheet.list_to_normal(&[0, 1 << field.n]).unwrap_err();
     assert_eq!((refusal.number, refusal.place), (4, 1));
 }

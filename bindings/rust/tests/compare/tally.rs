@@ -1,10 +1,11 @@
 //! What was met: for each call how often it was done and how often each number
 //! refused it. [`Tally::close`] prints the table and says whether it is full.
 
+use crate::texts::KINDS;
 use sabrentuglio::{Grade, Reason};
 use std::collections::BTreeMap;
 
-/// The fourteen calls, in the order of the table.
+/// The sixteen calls, in the order of the table.
 #[derive(Clone, Copy, Debug)]
 pub enum Call {
     Check,
@@ -20,11 +21,13 @@ pub enum Call {
     Times,
     Inverse,
     Quotient,
+    WriteMatrices,
+    ReadMatrices,
     Search,
 }
 
 /// The name of each call and the documents' order of its refusals.
-const ORDERS: [(&str, &[u64]); 14] = [
+const ORDERS: [(&str, &[u64]); 16] = [
     ("check", &[1, 2, 3]),
     ("multiply", &[1, 4]),
     ("square", &[1, 4]),
@@ -38,6 +41,8 @@ const ORDERS: [(&str, &[u64]); 14] = [
     ("times", &[7, 8, 9, 4]),
     ("inverse", &[7, 8, 9, 4, 13]),
     ("quotient", &[7, 8, 9, 4, 13]),
+    ("write_matrices", &[7, 8, 9, 2, 3, 5, 10, 6]),
+    ("read_matrices", &[1, 4, 2, 3, 5, 14]),
     ("search", &[1, 4, 12, 2, 3]),
 ];
 
@@ -62,8 +67,9 @@ fn numbers() -> impl Iterator<Item = u64> {
 /// Counts for each call: done, as 0, and the numbers of the table.
 #[derive(Default)]
 pub struct Tally {
-    counts: [Counts; 14],
+    counts: [Counts; 16],
     grades: Counts,
+    kinds: BTreeMap<&'static str, u64>,
     nothing: u64,
 }
 
@@ -76,6 +82,11 @@ impl Tally {
     /// Counts the grade of a sheet or of what a search found.
     pub fn count_grade(&mut self, grade: u64) {
         *self.grades.entry(grade).or_default() += 1;
+    }
+
+    /// Counts a wrong text of a kind.
+    pub fn count_kind(&mut self, kind: &'static str) {
+        *self.kinds.entry(kind).or_default() += 1;
     }
 
     /// Counts a search that found nothing.
@@ -93,6 +104,11 @@ impl Tally {
         self.counts.iter().map(|row| met(row, number)).sum()
     }
 
+    /// How often a kind of wrong text was refused as such.
+    fn met_kind(&self, kind: &str) -> u64 {
+        self.kinds.get(kind).copied().unwrap_or(0)
+    }
+
     /// Prints the table and holds it against what has to be met.
     pub fn close(&self) {
         self.print();
@@ -104,6 +120,10 @@ impl Tally {
         for grade in Grade::ALL {
             let met = met(&self.grades, grade.number());
             assert!(met >= OFTEN, "{:?} met {} times", grade, met);
+        }
+        for (kind, _) in KINDS {
+            let met = self.met_kind(kind);
+            assert!(met >= OFTEN, "{} met {} times", kind, met);
         }
         assert!(self.nothing >= OFTEN, "nothing met {} times", self.nothing);
         for ((name, order), row) in ORDERS.iter().zip(&self.counts) {
@@ -142,6 +162,9 @@ impl Tally {
         }
         for (grade, count) in &self.grades {
             println!("grade {}: met {} times", grade, count);
+        }
+        for (kind, _) in KINDS {
+            println!("wrong texts, {}: {}", kind, self.met_kind(kind));
         }
         println!("searches that found nothing: {}", self.nothing);
     }
