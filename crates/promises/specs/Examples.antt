@@ -1,5 +1,5 @@
 -- The small numbers of document 01 ("Small numbers to hold it against"), of what the calls answer; those of division (document 02, §1), of its
--- definitions on rows that are written out; and those of grades (§3).
+-- definitions on rows that are written out; those of grades (§3); and two texts of matrices (§4).
 --
 --   Issued, Refused, Converted, Multiplied, Rejected   what a line says of the calls
 --   examples          the twelve lines marked P, in one table
@@ -8,6 +8,7 @@
 --   quotients         on these, every quotient times its divisor is the dividend, by conversion and the product modulo f
 --   factors-in-order  on tables that no builder writes: which factor stands first
 --   second-kind, both-kinds, cubes   grades at degrees 6 and 18, and why degree 2 has one of its own
+--   texts             the texts of 7 and 2, and of 11 and 3, in full, as writing leaves them. Texts that are not right: `Examples` in `matrices`
 --
 -- Assumes nothing.
 use mathlib.Core.Path.{_≡_, refl}
@@ -32,8 +33,11 @@ use Rattle.normal.specs.Grades.{kindOf, gradeOf, gradeNumber}
 use Rattle.normal.specs.TableProduct.{rotate, rotatedBy, total, productBit, tableProduct}
 use Rattle.normal.specs.Powers.{powerWithin, powerOf, inverseOf, quotientOf}
 use Rattle.sheet.specs.Record.{recordSize, conjugateRowsIn, inverseRowsIn, tableRowsIn, bytesOf, numberIn, recordBytes, recordsTo, sheetBytes, columnIn, rowsIn, recordAt}
-use Rattle.sheet.specs.Orders.{badLength, misplaced, oversized, recordRules, valueRules}
+use Rattle.sheet.specs.Orders.{badLength, misplaced, oversized, same, recordRules, differRules, valueRules}
 use Rattle.sheet.specs.Answers.{Issue, issueOf, summaryOf, buildReport, builtBuffer, readReport, toPolynomial, polynomialReport, toNormal, normalReport, throughTable, timesReport}
+use Rattle.matrices.specs.Matrices.{matrixEntry, inOrder, lineBytes, matrixBytes, textBytes, matricesText, textSize}
+use Rattle.matrices.specs.Answers.{writtenText}
+use Rattle.matrices.specs.Examples.{textOfTwo, textOfThree}
 
 -- a buffer of 32n bytes, all zero, in which the sheet is built
 abbrev blank : (f : ℕ) → List ℕ
@@ -146,3 +150,10 @@ both-kinds = (refl, refl)
 pub cubes : (powMod 7 2 2 3 ≡ 1) × (powMod 7 2 3 3 ≡ 1)
 unfolding powMod mulMod rem reduce product digits digitsFrom _⊕_
 cubes = (refl, refl)
+
+-- ---- the full set of matrices (document 02, §4)
+
+-- from the sheets that build writes, into buffers of 14 and of 40 bytes: the byte past the second text stays
+pub texts : (writtenText (sheetOf 7 2) (zeros 14) ≡ textOfTwo) × (writtenText (sheetOf 11 3) (zeros 40) ≡ textOfThree ++ zeros 1)
+unfolding writtenText textSize matricesText textBytes matrixBytes lineBytes inOrder matrixEntry same differRules recordAt builtBuffer left firstOf badLength misplaced oversized recordRules columnIn numberIn tooLarge bytesOf recordBytes recordsTo sheetBytes degreeOutside divided strays divides degree some first normal independent conjugates conjugatesFrom squared inverseRows tableRows listed coordinates comb mulMod rem reduce product digits digitsFrom _⊕_ bitOf
+texts = (refl, refl)
