@@ -9,7 +9,6 @@ use native.Mathlib.Numerals.{add-one}
 use native.Mathlib.Omega.{arith}
 use lib.ListN.{length, take, drop, length-append}
 use lib.Seq.{drop-drop, drop-append-add, take-at}
-use Rattle.gf2.specs.Limit.{limit}
 use Rattle.normal.specs.Normal.{listed}
 use Rattle.normal.specs.Coordinates.{listed-length, listed-ext}
 use Rattle.matrices.specs.Matrices.{inOrder, digitByte, lineEnd, lineBytes, matrixBytes, textBytes, matrixSize, textSize}
@@ -124,13 +123,13 @@ module _ (n : ℕ) where
       ap (take (n + 1)) (sym (drop-drop (i * (n + 1)) (k * matrixSize n) (textBytes n g)) ∙ ap (drop (i * (n + 1))) place ∙ line)
       ∙ take-at (lineBytes n (g k i)) _ (n + 1) (line-length (g k i))
 
--- ---- sizes within the limit
+-- ---- sizes up to a degree m
 
-pub lines-most : (n i : ℕ) → n ≤ limit → i ≤ n → i * (n + 1) ≤ limit * (limit + 1)
-lines-most n i h l = let g : n + 1 ≤ limit + 1 = omega arith in let k : i ≤ limit = omega arith in mul-le-mul k g
+pub lines-size-most : (m n i : ℕ) → n ≤ m → i ≤ n → i * (n + 1) ≤ m * (m + 1)
+lines-size-most m n i h l = let g : n + 1 ≤ m + 1 = omega arith in let k : i ≤ m = omega arith in mul-le-mul k g
 
-pub text-most : (n k : ℕ) → n ≤ limit → k ≤ n → k * matrixSize n ≤ limit * (limit * (limit + 1) + 1)
-text-most n k h l =
-    let g : matrixSize n ≤ limit * (limit + 1) + 1 = omega (arith, lines-most n n h (omega arith)) in
-    let m : k ≤ limit = omega arith in
-    mul-le-mul m g
+pub text-size-most : (m n k : ℕ) → n ≤ m → k ≤ n → k * matrixSize n ≤ m * matrixSize m
+text-size-most m n k h l =
+    let g : matrixSize n ≤ matrixSize m = omega (arith, lines-size-most m n n h (omega arith)) in
+    let j : k ≤ m = omega arith in
+    mul-le-mul j g

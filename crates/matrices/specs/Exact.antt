@@ -4,7 +4,6 @@
 --   given sheet buffer            the text at the front of the buffer, once it is written
 --   written-front, written-kept   what the buffer holds: the text, and the bytes past it as they came; on a refusal all as it came
 --   given-text, given-ones        that text, and its ones; `given-degree`: the n of that count
---   read-writes, read-written     writing is done on every sheet that reading accepts, given the room, and leaves that text
 --   Given f a text t              writing gave the text, and answered t, from a sheet of f and a
 --   sheet-writes, sheet-gives     from the sheet of f and a: the answer, and the text
 --   reading-accepts               "reading accepts exactly what writing gives for them", with the same answer
@@ -26,8 +25,7 @@ use Rattle.refusals.specs.Verdicts.{Verdict, clear, refuse, firstOf}
 use Rattle.refusals.specs.Answers.{answerOf, left}
 use Rattle.refusals.specs.declared.answer.Refusal.{Refusal}
 use Rattle.sheet.specs.Record.{recordSize, recordCount, conjugateIn, polynomialIn, sheetBytes}
-use Rattle.sheet.specs.Orders.{readOrder}
-use Rattle.sheet.specs.Answers.{summaryOf, summaryIn, atFront, buildAnswer, builtBuffer, readAnswer}
+use Rattle.sheet.specs.Answers.{summaryOf, summaryIn, atFront, buildAnswer, builtBuffer}
 use Rattle.sheet.specs.Answered.{done-clear}
 use Rattle.sheet.specs.Held.{held-count, held-polynomial, held-element}
 use Rattle.sheet.specs.Issued.{answered-based, build-buffer, build-sheet, read-answered, answered-sheet}
@@ -80,15 +78,6 @@ module _ (sheet buffer : List ℕ) (t : Summary) (e : writeAnswer sheet (length 
   given-ones =
       ap (countOf oneByte) given-text ∙ ones-written (polynomialIn sheet) (recordCount sheet) (conjugateIn sheet 0) (read .0 .based)
       ∙ ap (λ (s : Summary). recordCount sheet * s .complexity) (read .1)
-
--- so it is on every sheet that reading finds nothing wrong with, given the room; that such a sheet is based: `read-sheet` in `Issuing` of `sheet`
-module _ (sheet buffer : List ℕ) (c : firstOf (readOrder sheet) ≡ clear) (fits : textSize (recordCount sheet) ≤ length buffer) where
-  pub read-writes : writeAnswer sheet (length buffer) ≡ issued.Done (summaryIn sheet)
-  unfolding readAnswer answerOf
-  read-writes = write-as-read sheet (length buffer) fits ∙ rw c refl
-
-  pub read-written : writtenText sheet buffer ≡ textIn sheet ++ drop (textSize (recordCount sheet)) buffer
-  read-written = written-front sheet buffer (summaryIn sheet) read-writes
 
 -- on a refusal all is as it came
 pub written-kept : (sheet buffer : List ℕ) (r : Refusal) → writeAnswer sheet (length buffer) ≡ issued.Refused r → writtenText sheet buffer ≡ buffer

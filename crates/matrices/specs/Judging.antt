@@ -4,7 +4,7 @@
 --   Right f a text                              f is accepted, a is a normal element, and the text is theirs
 --   basedOrder f a, based-listed                what build and reading a text share: 1, 4, 2, 3, 5, each with place 0
 --   order-based, based-order                    none of these applies exactly if f is accepted and a is a normal element
---   text-right, right-text, text-exact          reading a text finds nothing to refuse exactly for these
+--   text-right, right-text                      reading a text finds nothing to refuse exactly for these
 --   text-done-exactly                           the same by its answer
 --   text-done-as-build, text-refused-as-build   it answers as build does, and refuses what build refuses, whatever the text
 --   write-as-read, write-refused-as-read        writing answers as reading the sheet does, given the room, and refuses what that refuses
@@ -84,9 +84,6 @@ module _ (f a : ℕ) (text : List ℕ) where
       ∙ first-passes (matchRule text right) [] (rw (r .1, same-refl right)) ∙ first-none
 
   -- the right text of an accepted f and a normal element, and nothing else
-  pub text-exact : (firstOf (textOrder f a text) ≡ clear) ↔ Right f a text
-  text-exact = (text-right, right-text)
-
   pub text-done-exactly : (textAnswer f a text ≡ issued.Done (summaryOf f (degree f) a)) ↔ Right f a text
   unfolding textAnswer answerOf
   text-done-exactly =

@@ -1,7 +1,6 @@
 -- "14, text does not match, place the first wrong, missing or extra line counted from 0" (document 02, §4): when it is given, and what its place is
 -- against the right text.
 --
---   lines-shared                                a common beginning ends no more lines than the place counts: the wrong line comes after them
 --   place-beginning, place-empty, place-extra   "missing": the lines that are there; 0 if nothing is; "extra": all n(n+1) lines
 --   place-most                                  never more than n(n+1)
 --   text-differs, text-differs-exactly          14 exactly for an accepted f, a normal element, and a text that is not theirs
@@ -55,10 +54,6 @@ lines-after front x y = ap (countOf lineEnd) (common-front front x y) ∙ count-
 none-after : (x : List ℕ) → commonLines x [] ≡ 0
 unfolding commonLines countOf
 none-after x = ap (countOf lineEnd) (common-nil x)
-
--- as many lines as any common beginning has are right
-pub lines-shared : (front x y : List ℕ) → countOf lineEnd front ≤ commonLines (front ++ x) (front ++ y)
-lines-shared front x y = omega (arith, lines-after front x y)
 
 -- a text that ends too early: its lines that are ended are right
 pub place-beginning : (text rest : List ℕ) → commonLines text (text ++ rest) ≡ countOf lineEnd text

@@ -3,5 +3,7 @@ mod line;
 mod reading;
 mod writing;
 
+pub use line::TEXT_LIMIT;
+pub use line::text_size;
 pub use reading::read_matrices;
 pub use writing::write_matrices;

@@ -14,6 +14,9 @@ pub const LINE_END: u8 = 10;
 // The digit 0; the digit 1 is the byte after it.
 const ZERO: u8 = 48;
 
+// The bytes of the longest text: room for every sheet's.
+pub const TEXT_LIMIT: usize = LIMIT * (LIMIT * (LIMIT + 1) + 1);
+
 // Room for the rows of the longest table, twice over.
 pub const ROWS_TWICE: usize = 2 * LIMIT;
 

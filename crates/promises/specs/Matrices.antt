@@ -6,7 +6,7 @@
 --   entry-from-table         entry (i,j) of T_k is t((j-i) mod n, (k-i) mod n)
 --   line-of-matrix           where in the text line i of T_k stands
 --   ones-written             "the ones written number n times our complexity"
---   accepts-exactly          "reading accepts exactly what writing gives for them": on the sheet that build writes
+--   accepts-exactly, -whole  "reading accepts exactly what writing gives for them": on the sheet that build writes
 --   as-build, refused-as-build   "answering as build does"
 --   placed-exactly           "14, text does not match, place the first wrong, missing or extra line counted from 0"
 --   shared-beginning         that place counts the bytes 10 of the longest beginning that the two texts share
@@ -37,7 +37,7 @@ use Rattle.matrices.specs.Blocks.{text-line}
 use Rattle.matrices.specs.CommonLines.{common-left, common-right, common-longest}
 use Rattle.matrices.specs.Counting.{oneByte}
 use Rattle.matrices.specs.Entries.{entry-table}
-use Rattle.matrices.specs.Exact.{given, written-front, given-degree, given-ones, Given, reading-accepts, builtSheet, write-built, reading-built}
+use Rattle.matrices.specs.Exact.{given, written-front, given-degree, given-ones, Given, reading-accepts, builtSheet, write-built, reading-built, reading-whole}
 use Rattle.matrices.specs.Figure as figure
 use Rattle.matrices.specs.Figure.{matrixOnes}
 use Rattle.matrices.specs.Judging.{text-done-as-build, text-refused-as-build}
@@ -97,6 +97,11 @@ module _ (f a : ℕ) (buffer : List ℕ) (t : Summary) (built : buildAnswer f a 
 
   pub accepts-exactly : (text : List ℕ) → (textAnswer f a text ≡ issued.Done t) ↔ (text ≡ given (builtSheet f a buffer) lent)
   accepts-exactly = reading-built f a buffer t built lent fits
+
+-- the same over buffers that the sheet and the text fill
+pub accepts-whole : (f a : ℕ) (buffer : List ℕ) (t : Summary) → buildAnswer f a (length buffer) ≡ issued.Done t → length buffer ≡ recordSize * degree f
+    → (lent : List ℕ) → length lent ≡ textSize (degree f) → (text : List ℕ) → (textAnswer f a text ≡ issued.Done t) ↔ (text ≡ writtenText (builtBuffer f a buffer) lent)
+accepts-whole f a buffer t built filled lent fits text = reading-whole f a buffer t built filled lent fits text
 
 -- "answering as build does", to which a buffer of 32n bytes is lent
 module _ (f a room : ℕ) (fits : recordSize * degree f ≤ room) (text : List ℕ) where

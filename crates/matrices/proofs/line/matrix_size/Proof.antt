@@ -2,7 +2,8 @@
 -- Assumes nothing.
 use native.Mathlib.Omega.{arith}
 use borrow.Author.Needs.{needs}
-use Rattle.matrices.specs.Blocks.{lines-most}
+use Rattle.gf2.specs.Limit.{limit}
+use Rattle.matrices.specs.Blocks.{lines-size-most}
 use Rattle.matrices.proofs.line.matrix_size.Statement.{statement}
 use Rattle.matrices.proofs.line.matrix_size.Tie as tie
 
@@ -10,10 +11,10 @@ add-result : tie.Need-add-result
 add-result c = search needs
 
 mul-result : tie.Need-mul-result
-mul-result c = omega (arith, lines-most (c .args .n) (c .args .n) (c .pre) (omega arith))
+mul-result c = omega (arith, lines-size-most limit (c .args .n) (c .args .n) (c .pre) (omega arith))
 
 add-result-2 : tie.Need-add-result-2
-add-result-2 c = omega (arith, lines-most (c .args .n) (c .args .n) (c .pre) (omega arith))
+add-result-2 c = omega (arith, lines-size-most limit (c .args .n) (c .args .n) (c .pre) (omega arith))
 
 returns : tie.Need-returns
 returns c = search needs

@@ -4,8 +4,9 @@ use mathlib.Core.Path.{_≡_, ap}
 use Prim.Native.Nat.{ℕ, _*_}
 use native.Mathlib.Omega.{arith}
 use borrow.Author.Needs.{needs}
+use Rattle.gf2.specs.Limit.{limit}
 use Rattle.matrices.specs.Matrices.{matrixSize, textSize}
-use Rattle.matrices.specs.Blocks.{text-most}
+use Rattle.matrices.specs.Blocks.{text-size-most}
 use Rattle.matrices.proofs.line.text_size.Statement.{statement}
 use Rattle.matrices.proofs.line.text_size.Tie as tie
 
@@ -20,7 +21,7 @@ mul-result : tie.Need-mul-result
 unfolding textSize
 mul-result c =
     let s = c .before in
-    omega (arith, size-is (s .args .n) (c .matrix-size .result) (c .matrix-size .ensures), text-most (s .args .n) (s .args .n) (s .pre) (omega arith))
+    omega (arith, size-is (s .args .n) (c .matrix-size .result) (c .matrix-size .ensures), text-size-most limit (s .args .n) (s .args .n) (s .pre) (omega arith))
 
 returns : tie.Need-returns
 returns c = size-is (c .before .args .n) (c .matrix-size .result) (c .matrix-size .ensures)

@@ -8,7 +8,7 @@ use borrow.Author.Needs.{needs}
 use lib.ListN.{drop}
 use Rattle.gf2.specs.Limit.{limit}
 use Rattle.matrices.specs.Matrices.{matrixBytes}
-use Rattle.matrices.specs.Blocks.{lines-most}
+use Rattle.matrices.specs.Blocks.{lines-size-most}
 use Rattle.matrices.specs.Turned.{turned}
 use Rattle.matrices.specs.Comparing.{Agrees, matrix-start, matrix-stop, matrix-next, matrix-end, matrix-most}
 use Rattle.matrices.proofs.reading.common_matrix.Statement.{statement}
@@ -22,7 +22,7 @@ abbrev μ-loop : tie.MeasureT-loop
 
 -- the bytes before a line are few
 few : (l : tie.At-loop Inv-loop μ-loop) → l .loop .i * (l .before .before .args .n + 1) ≤ limit * (limit + 1)
-few l = let s = l .before .before in lines-most (s .args .n) (l .loop .i) (s .pre .1) (l .loop .inv .0)
+few l = let s = l .before .before in lines-size-most limit (s .args .n) (l .loop .i) (s .pre .1) (l .loop .inv .0)
 
 loop-holds : tie.Need-loop-holds Inv-loop μ-loop
 loop-holds c =
@@ -84,12 +84,12 @@ add-common-end c = search needs
 mul-common-end : tie.Need-mul-common-end Inv-loop μ-loop
 mul-common-end c =
     let s = c .before .before .before in
-    omega (arith, lines-most (s .args .n) (s .args .n) (s .pre .1) (omega arith))
+    omega (arith, lines-size-most limit (s .args .n) (s .args .n) (s .pre .1) (omega arith))
 
 add-common-end-2 : tie.Need-add-common-end-2 Inv-loop μ-loop
 add-common-end-2 c =
     let s = c .before .before .before in
-    omega (arith, lines-most (s .args .n) (s .args .n) (s .pre .1) (omega arith), s .pre .3)
+    omega (arith, lines-size-most limit (s .args .n) (s .args .n) (s .pre .1) (omega arith), s .pre .3)
 
 common-end-requires : tie.Need-common-end-requires Inv-loop μ-loop
 common-end-requires c κs = search needs

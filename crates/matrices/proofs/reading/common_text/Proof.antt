@@ -8,7 +8,7 @@ use lib.ListN.{drop}
 use Rattle.gf2.specs.Limit.{limit}
 use Rattle.matrices.specs.Matrices.{matrixBytes, textBytes, matrixSize}
 use Rattle.matrices.specs.Orders.{commonLines}
-use Rattle.matrices.specs.Blocks.{lines-most, text-most}
+use Rattle.matrices.specs.Blocks.{lines-size-most, text-size-most}
 use Rattle.matrices.specs.Turned.{turned}
 use Rattle.matrices.specs.Comparing.{Agrees, text-start, text-stop, text-next, text-end}
 use Rattle.matrices.proofs.reading.common_text.Statement.{statement}
@@ -28,7 +28,7 @@ place l = ap (λ (x : ℕ). l .loop .k * x) (l .before .matrix-size .ensures)
 low : (l : tie.At-loop Inv-loop μ-loop) → l .loop .k * l .before .matrix-size .result ≤ limit * (limit * (limit + 1) + 1)
 low l =
     let s = l .before .before .before in
-    omega (arith, place l, text-most (s .args .n) (l .loop .k) (s .pre .1) (l .loop .inv .0))
+    omega (arith, place l, text-size-most limit (s .args .n) (l .loop .k) (s .pre .1) (l .loop .inv .0))
 
 -- what the comparison of a matrix found, at its place
 found : (c : tie.After-common-matrix Inv-loop μ-loop)
@@ -61,13 +61,13 @@ mul-result : tie.Need-mul-result Inv-loop μ-loop
 mul-result c =
     let l = c .before .before .before in
     let s = l .before .before .before in
-    omega (arith, lines-most (s .args .n) (l .loop .k) (s .pre .1) (l .loop .inv .0))
+    omega (arith, lines-size-most limit (s .args .n) (l .loop .k) (s .pre .1) (l .loop .inv .0))
 
 add-result-2 : tie.Need-add-result-2 Inv-loop μ-loop
 add-result-2 c =
     let l = c .before .before .before in
     let s = l .before .before .before in
-    omega (arith, lines-most (s .args .n) (l .loop .k) (s .pre .1) (l .loop .inv .0), c .if1 .taken, s .pre .1)
+    omega (arith, lines-size-most limit (s .args .n) (l .loop .k) (s .pre .1) (l .loop .inv .0), c .if1 .taken, s .pre .1)
 
 returns : tie.Need-returns Inv-loop μ-loop
 returns c =
@@ -95,7 +95,7 @@ add-result-3 c = search needs
 mul-result-2 : tie.Need-mul-result-2 Inv-loop μ-loop
 mul-result-2 c =
     let s = c .before .before .before .before in
-    omega (arith, lines-most (s .args .n) (s .args .n) (s .pre .1) (omega arith))
+    omega (arith, lines-size-most limit (s .args .n) (s .args .n) (s .pre .1) (omega arith))
 
 returns-2 : tie.Need-returns-2 Inv-loop μ-loop
 returns-2 c =

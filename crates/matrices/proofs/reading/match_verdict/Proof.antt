@@ -4,12 +4,13 @@ use mathlib.Core.Path.{sym, ap, _∙_}
 use Prim.Native.Nat.{_≤_}
 use native.Mathlib.Omega.{arith}
 use borrow.Author.Needs.{needs}
+use Rattle.gf2.specs.Limit.{limit}
 use Rattle.refusals.specs.Answers.{checkedOf}
 use Rattle.refusals.specs.Answered.{answer-clear}
 use Rattle.refusals.specs.declared.answer.Checked.the-variants as checked
 use Rattle.matrices.specs.Matrices.{textBytes, lineCount}
 use Rattle.matrices.specs.Orders.{commonLines}
-use Rattle.matrices.specs.Blocks.{lines-most}
+use Rattle.matrices.specs.Blocks.{lines-size-most}
 use Rattle.matrices.specs.Turned.{turned}
 use Rattle.matrices.specs.Matching.{match-fewer, match-other-length, match-whole}
 use Rattle.matrices.proofs.reading.match_verdict.Statement.{statement}
@@ -24,7 +25,7 @@ add-if1 c = search needs
 mul-if1 : tie.Need-mul-if1
 mul-if1 c =
     let s = c .before .before in
-    omega (arith, lines-most (s .args .n) (s .args .n) (s .pre .1) (omega arith))
+    omega (arith, lines-size-most limit (s .args .n) (s .args .n) (s .pre .1) (omega arith))
 
 refused-at-requires : tie.Need-refused-at-requires
 refused-at-requires c κs = search needs

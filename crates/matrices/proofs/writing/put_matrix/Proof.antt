@@ -6,9 +6,10 @@ use native.Mathlib.Nat.{mod-lt, mul-le-mul}
 use native.Mathlib.Omega.{arith}
 use borrow.Author.Needs.{needs}
 use lib.ListN.{length, length-set}
+use Rattle.gf2.specs.Limit.{limit}
 use Rattle.sheet.specs.Bytes.{pasted}
 use Rattle.matrices.specs.Matrices.{inOrder, lineBytes, lineEnd}
-use Rattle.matrices.specs.Blocks.{lines-most, next-place}
+use Rattle.matrices.specs.Blocks.{lines-size-most, next-place}
 use Rattle.matrices.specs.Turned.{turned}
 use Rattle.matrices.specs.Putting.{lines-none, lines-kept, lines-next, matrix-done}
 use Rattle.matrices.proofs.writing.put_matrix.Statement.{statement}
@@ -58,7 +59,7 @@ mul-put-line : tie.Need-mul-put-line Inv-loop μ-loop
 mul-put-line c =
     let l = c .before .before in
     let s = l .before .before in
-    omega (arith, lines-most (s .args .n) (l .loop .i) (s .pre .1) (l .loop .inv .0))
+    omega (arith, lines-size-most limit (s .args .n) (l .loop .i) (s .pre .1) (l .loop .inv .0))
 
 add-put-line-3 : tie.Need-add-put-line-3 Inv-loop μ-loop
 add-put-line-3 c =
@@ -94,7 +95,7 @@ add-text c = search needs
 mul-text : tie.Need-mul-text Inv-loop μ-loop
 mul-text c =
     let s = c .before .before .before in
-    omega (arith, lines-most (s .args .n) (s .args .n) (s .pre .1) (omega arith))
+    omega (arith, lines-size-most limit (s .args .n) (s .args .n) (s .pre .1) (omega arith))
 
 add-text-2 : tie.Need-add-text-2 Inv-loop μ-loop
 add-text-2 c =

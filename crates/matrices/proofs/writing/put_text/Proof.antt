@@ -6,9 +6,10 @@ use native.Mathlib.Nat.{mul-le-mul}
 use native.Mathlib.Omega.{arith}
 use borrow.Author.Needs.{needs}
 use lib.ListN.{length}
+use Rattle.gf2.specs.Limit.{limit}
 use Rattle.sheet.specs.Bytes.{pasted}
 use Rattle.matrices.specs.Matrices.{inOrder, matrixBytes, textBytes, matrixSize, textSize}
-use Rattle.matrices.specs.Blocks.{text-most, next-place}
+use Rattle.matrices.specs.Blocks.{text-size-most, next-place}
 use Rattle.matrices.specs.Turned.{turned}
 use Rattle.matrices.specs.Putting.{matrices-none, matrices-kept, matrices-next}
 use Rattle.matrices.proofs.writing.put_text.Statement.{statement}
@@ -57,7 +58,7 @@ mul-put-matrix : tie.Need-mul-put-matrix Inv-loop μ-loop
 mul-put-matrix c =
     let l = c .before .before in
     let s = l .before .before .before in
-    omega (arith, place l, text-most (s .args .n) (l .loop .k) (s .pre .1) (l .loop .inv .0))
+    omega (arith, place l, text-size-most limit (s .args .n) (l .loop .k) (s .pre .1) (l .loop .inv .0))
 
 put-matrix-requires : tie.Need-put-matrix-requires Inv-loop μ-loop
 put-matrix-requires c κs =
