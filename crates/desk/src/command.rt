@@ -11,6 +11,8 @@ pub(crate) enum Command {
     Show,
     List,
     Verify,
+    Matrices,
+    ReadMatrices,
     Times,
     Inverse,
     Quotient,
@@ -37,6 +39,16 @@ fn field_command_of(word: &[u8]) -> Command {
     }
 }
 
+fn matrix_command_of(word: &[u8]) -> Command {
+    if same(word, b"matrices") {
+        Command::Matrices
+    } else if same(word, b"read-matrices") {
+        Command::ReadMatrices
+    } else {
+        field_command_of(word)
+    }
+}
+
 fn sheet_command_of(word: &[u8]) -> Command {
     if same(word, b"build") {
         Command::Build
@@ -57,7 +69,7 @@ fn sheet_command_of(word: &[u8]) -> Command {
     } else if same(word, b"polynomial") {
         Command::Polynomial
     } else {
-        field_command_of(word)
+        matrix_command_of(word)
     }
 }
 

@@ -114,8 +114,8 @@ pub(crate) fn given_twice(i: usize) -> Ending {
 }
 
 // The command takes no --from.
-pub(crate) fn no_values() -> Ending {
-    say(b"desk: '--from' goes with 'normal' and 'polynomial' alone\n");
+pub(crate) fn no_from() -> Ending {
+    say(b"desk: '--from' goes with 'normal', 'polynomial' and 'read-matrices' alone\n");
     Ending::BadWord
 }
 

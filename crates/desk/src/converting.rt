@@ -13,7 +13,7 @@ use super::input::number_at;
 use super::input::open_input;
 use super::input::path_at;
 use super::input::polynomial_at;
-use super::input::read_sheet;
+use super::input::read_input;
 use super::options::Given;
 use super::options::VALUES_AT;
 use super::options::WORDS_ROOM;
@@ -84,7 +84,7 @@ fn convert_values(
         return Ending::BadWord;
     }
     let mut bytes = [0u8; INPUT_ROOM];
-    let got = read_sheet(places[1], &mut bytes);
+    let got = read_input(places[1], &mut bytes);
     if got < 0 {
         return Ending::Failed;
     }
@@ -131,7 +131,7 @@ fn convert_open(
     output: Output,
 ) -> Ending {
     let mut bytes = [0u8; INPUT_ROOM];
-    let got = read_sheet(places[1], &mut bytes);
+    let got = read_input(places[1], &mut bytes);
     if got < 0 {
         return Ending::Failed;
     }

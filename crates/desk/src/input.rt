@@ -1,4 +1,4 @@
-// The words of the command line and the sheets of files, as the calls take them.
+// The words of the command line and the sheets and texts of files, as the calls take them.
 ghost use mathlib.Core.Path.{_≡_};
 ghost use lib.ListN.{length};
 ghost use Rattle.io.specs.Counts.{Counts};
@@ -93,7 +93,8 @@ pub(crate) fn open_input(i: usize) -> i32 {
     opened
 }
 
-// Reads a sheet from an open input, and returns its length. If a read fails, a line says so, and the result is -1.
+// Reads an open input into the space that there is, and returns how many bytes it read. If a read fails, a line says so, and the result
+// is -1.
 pub(crate) fn read_open(descriptor: i32, name: &[u8], bytes: &mut [u8]) -> isize {
     let got = read_whole(descriptor, bytes);
     if got < 0 {
@@ -102,8 +103,8 @@ pub(crate) fn read_open(descriptor: i32, name: &[u8], bytes: &mut [u8]) -> isize
     got
 }
 
-// Reads the sheet that word i names, and returns its length; -1 if that fails, and a line has said so.
-pub(crate) fn read_sheet(i: usize, bytes: &mut [u8]) -> isize {
+// Reads the input that word i names, and returns how many bytes it read; -1 if that fails, and a line has said so.
+pub(crate) fn read_input(i: usize, bytes: &mut [u8]) -> isize {
     let descriptor = open_input(i);
     if descriptor < 0 {
         return -1;

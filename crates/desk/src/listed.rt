@@ -60,14 +60,15 @@ pub(crate) fn answer_listing(output: Output, bytes: &[u8]) -> Ending {
     }
 }
 
-fn put_accepted(output: Output, f: u64, element: u64, summary: Summary) -> bool {
+// Degree, f, element, complexity and grade of what reading accepts.
+pub(crate) fn put_accepted(output: Output, f: u64, element: u64, summary: Summary) -> bool {
     output.put_count(b"accepted degree ", summary.degree as u64)
         && output.put_value(b" f ", f)
         && output.put_value(b" element ", element)
         && put_kind(output, b" complexity ", summary)
 }
 
-// Degree, f, element, complexity and grade of a sheet that reading accepts, or its refusal.
+// The line on a sheet that reading accepts, or its refusal.
 pub(crate) fn answer_verify(output: Output, bytes: &[u8]) -> Ending {
     match sheet::read(bytes) {
         Issued::Refused(refusal) => refuse(refusal),

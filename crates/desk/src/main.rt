@@ -13,6 +13,8 @@ mod filling;
 mod input;
 mod lines;
 mod listed;
+mod matrix_text;
+mod mismatch;
 mod options;
 mod output;
 mod pages;
@@ -40,6 +42,8 @@ fn run(command: Command, places: &[usize; WORDS_ROOM], given: Given, output: Out
         Command::Show => sheet_commands::show(places, given, output),
         Command::List => sheet_commands::list(places, given, output),
         Command::Verify => sheet_commands::verify(places, given, output),
+        Command::Matrices => sheet_commands::matrices(places, given, output),
+        Command::ReadMatrices => matrix_text::read(places, given, output),
         Command::Times => sheet_commands::times(places, given, output),
         Command::Inverse => sheet_commands::inverse(places, given, output),
         Command::Quotient => sheet_commands::quotient(places, given, output),
@@ -67,11 +71,12 @@ fn command_given(places: &[usize; WORDS_ROOM], given: Given) -> Command {
     command_of(&space[..size])
 }
 
-// Whether the command may have values by line. A page is printed whatever else is given.
-fn takes_values(command: Command) -> bool {
+// Whether the command reads what --from names. A page is printed whatever else is given.
+fn takes_from(command: Command) -> bool {
     match command {
         Command::Normal => true,
         Command::Polynomial => true,
+        Command::ReadMatrices => true,
         Command::Help => true,
         Command::Version => true,
         _ => false,
@@ -94,8 +99,8 @@ fn refuse_option(i: usize, awaits: usize) -> Ending {
 fn answer_given(places: &[usize; WORDS_ROOM], given: Given) -> Ending {
     let command = command_given(places, given);
     if given.from != 0 {
-        if !takes_values(command) {
-            return complaints::no_values();
+        if !takes_from(command) {
+            return complaints::no_from();
         }
     }
     let output = replacing::open_output(given);

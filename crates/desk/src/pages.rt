@@ -35,6 +35,15 @@ fn put_sheet_commands(output: Output) -> bool {
         && output.put(b"desk quotient SHEET A B         A divided by B, in normal coordinates\n")
 }
 
+fn put_matrix_commands(output: Output) -> bool {
+    output.put(
+        b"desk matrices SHEET             all matrices of a sheet as text; without SHEET, standard input\n",
+    )
+        && output.put(
+            b"desk read-matrices F ELEMENT    whether the text on standard input has all matrices of ELEMENT:\n                                degree, F, element, complexity and grade\n",
+        )
+}
+
 fn put_other_commands(output: Output) -> bool {
     output.put(b"desk help                       this page; also -h and --help\n")
         && output.put(b"desk version                    the version; also --version\n")
@@ -43,7 +52,7 @@ fn put_other_commands(output: Output) -> bool {
             b"--hex          writes polynomials, elements and coordinates in hexadecimal\n",
         )
         && output.put(
-            b"--from FILE    with normal and polynomial: reads the values from FILE, one a line\n",
+            b"--from FILE    with normal and polynomial: reads the values from FILE, one a line;\n               with read-matrices: reads the text from FILE\n",
         )
         && output.put(
             b"--to FILE      writes the answer to FILE, which is replaced only if all was written\n",
@@ -63,8 +72,14 @@ fn put_notations(output: Output) -> bool {
         && output.put(
             b"any number of values, one each; a line that is no value ends the command, and those before it are converted.\n",
         )
+}
+
+fn put_forms(output: Output) -> bool {
+    output.put(
+        b"A listing has a line for each row: its number, conjugate, inverse row and table row.\n",
+    )
         && output.put(
-            b"A listing has a line for each row: its number, conjugate, inverse row and table row.\n",
+            b"The text of the matrices has n matrices for degree n, and an empty line after each. A row is a line of n digits:\ndigit j of row i in matrix k is bit k of the normal coordinates of conjugate i times conjugate j.\n",
         )
         && output.put(
             b"Grade 0: the complexity is not 2n-1, for degree n. If it is, the basis is optimal: grade 1 of the first kind,\n2 of the second, 3 of both (at degree 2).\n",
@@ -84,13 +99,15 @@ pub(crate) fn put_help(output: Output) -> Ending {
     done_if(
         put_number_commands(output)
             && put_sheet_commands(output)
+            && put_matrix_commands(output)
             && put_other_commands(output)
             && put_notations(output)
+            && put_forms(output)
             && put_endings(output),
     )
 }
 
 // The one version number of the program, the C header and the Rust crate.
 pub(crate) fn put_version(output: Output) -> Ending {
-    done_if(output.put(b"desk 2.0.0\n"))
+    done_if(output.put(b"desk 2.1.0\n"))
 }

@@ -13,7 +13,8 @@ use words::Word;
 // The refusal of a number with more bits than the degree.
 pub(crate) const TOO_LARGE: u8 = 4;
 
-// What document 01's table says of a refusal, and document 02 of 13. A number that neither has is told as such.
+// What document 01's table says of a refusal, and document 02 of 13. Refusal 14 has words of its own, in mismatch.rt. A number that
+// neither document has is told as such.
 fn say_meaning(number: u8) -> bool {
     match number {
         1 => say(b"the degree of f is not 2 to 46"),
@@ -21,7 +22,7 @@ fn say_meaning(number: u8) -> bool {
         3 => say(b"squaring x as many times as the degree of f does not bring it back"),
         4 => say(b"an element, a coordinate number or a range end has more bits than the degree"),
         5 => say(b"the element is not normal"),
-        6 => say(b"the buffer is shorter than the sheet"),
+        6 => say(b"the buffer is shorter than the sheet or the text"),
         7 => say(b"the sheet's length is not 32 bytes times a count of 2 to 46"),
         8 => say(
             b"the record at this place does not fit in: its degree, its row number or its polynomial",
@@ -40,7 +41,7 @@ fn say_meaning(number: u8) -> bool {
 }
 
 // How a command ends that is refused, if the line on it was written. One that could not be is no refusal that anybody was told of.
-fn refused_if(told: bool) -> Ending {
+pub(crate) fn refused_if(told: bool) -> Ending {
     if told {
         Ending::Refused
     } else {
@@ -49,7 +50,7 @@ fn refused_if(told: bool) -> Ending {
 }
 
 // The number and the place.
-fn say_refused(number: u64, place: u64) -> bool {
+pub(crate) fn say_refused(number: u64, place: u64) -> bool {
     say(b"refused ") && say_number(number) && say(b" ") && say_number(place) && say(b": ")
 }
 

@@ -1,4 +1,4 @@
-// The commands on one sheet: build, show, list, verify, times, inverse and quotient.
+// The commands on one sheet: build, show, list, verify, matrices, times, inverse and quotient.
 use super::answers::answer_value;
 use super::complaints::no_text;
 use super::complaints::wrong_count;
@@ -6,10 +6,11 @@ use super::input::INPUT_ROOM;
 use super::input::degree_named;
 use super::input::number_at;
 use super::input::polynomial_at;
+use super::input::read_input;
 use super::input::read_open;
-use super::input::read_sheet;
 use super::listed::answer_listing;
 use super::listed::answer_verify;
+use super::matrix_text::answer_matrices;
 use super::options::Given;
 use super::options::WORDS_ROOM;
 use super::output::Output;
@@ -90,19 +91,21 @@ pub(crate) fn show(places: &[usize; WORDS_ROOM], given: Given, output: Output) -
 enum Telling {
     Listing,
     Verdict,
+    Matrices,
 }
 
 fn tell(telling: Telling, output: Output, bytes: &[u8]) -> Ending {
     match telling {
         Telling::Listing => answer_listing(output, bytes),
         Telling::Verdict => answer_verify(output, bytes),
+        Telling::Matrices => answer_matrices(output, bytes),
     }
 }
 
 // The sheet that word 1 names, or standard input if there is none.
 fn read_named(places: &[usize; WORDS_ROOM], given: Given, bytes: &mut [u8]) -> isize {
     if given.words == 2 {
-        return read_sheet(places[1], bytes);
+        return read_input(places[1], bytes);
     }
     read_open(STDIN_FILENO, b"standard input", bytes)
 }
@@ -136,6 +139,13 @@ pub(crate) fn verify(places: &[usize; WORDS_ROOM], given: Given, output: Output)
     read_and_tell(Telling::Verdict, places, given, output)
 }
 
+pub(crate) fn matrices(places: &[usize; WORDS_ROOM], given: Given, output: Output) -> Ending {
+    if given.words > 2 {
+        return wrong_count(places[0], b"matrices SHEET, or desk matrices < SHEET");
+    }
+    read_and_tell(Telling::Matrices, places, given, output)
+}
+
 // What is worked out of normal coordinates.
 enum Operation {
     Product(u64, u64),
@@ -154,7 +164,7 @@ fn result_of(operation: Operation, bytes: &[u8]) -> Value {
 // What is worked out through the sheet of word 1.
 fn answer_operation(operation: Operation, places: &[usize; WORDS_ROOM], output: Output) -> Ending {
     let mut bytes = [0u8; INPUT_ROOM];
-    let got = read_sheet(places[1], &mut bytes);
+    let got = read_input(places[1], &mut bytes);
     if got < 0 {
         return Ending::Failed;
     }
