@@ -3,14 +3,11 @@
 //
 // Source document 001: optimal bases "exist only when n+1 or 2n+1 are prime", and degree 18 "satisfies the conditions for both types". Here grade 1
 // stands at degrees 4, 10, 12 and 18, where n+1 is prime; grade 2 at 3, 5, 6, 9, 11, 14 and 18, where 2n+1 is; and grade 3 at 2.
-use super::printing::end_line;
 use super::printing::say;
+use super::printing::say_issued;
 use super::printing::say_number;
-use super::printing::say_refusal;
 use super::searches::print_search;
 use gf2::LIMIT;
-use normal::grade_number;
-use sheet::Issued;
 use sheet::RECORD;
 
 fn print_whole_fields() -> bool {
@@ -35,18 +32,10 @@ fn print_beside() -> bool {
 // What build answers of the element.
 fn print_built(f: u64, element: u64) -> bool {
     let mut sheet = [0u8; RECORD * LIMIT];
-    if !say_number(b"sheet of ", f) || !say_number(b" and ", element) || !say(b": ") {
-        return false;
-    }
-    match sheet::build(f, element, &mut sheet) {
-        Issued::Refused(refusal) => say_refusal(refusal),
-        Issued::Done(summary) => {
-            let grade = summary.grade;
-            say_number(b"complexity ", summary.complexity as u64)
-                && say_number(b", grade ", grade_number(grade))
-                && end_line()
-        }
-    }
+    say_number(b"sheet of ", f)
+        && say_number(b" and ", element)
+        && say(b": ")
+        && say_issued(sheet::build(f, element, &mut sheet))
 }
 
 // A leader's grade is that of its class: 38805 squared is 119676, and 52434 squared 58800.

@@ -1,5 +1,6 @@
 // Runs document 01's "Small numbers to hold it against" and the complexities of source documents 000 and 001. The file stdout has
-// what those documents say, and for division and grades (document 02, §1 and §3) numbers that follow from its sentences. By theme:
+// what those documents say, and for division, grades and matrices (document 02, §1, §3 and §4) numbers that follow from its sentences. By
+// theme:
 //   complexities   the least complexity of small fields
 //   generators     the bases of 001's table 5
 //   sheets         sheets that are built, and elements that are refused
@@ -8,6 +9,7 @@
 //   checks         polynomials that the check takes or refuses
 //   searches       the searches at f = 19
 //   grades         the grades of the best, and both kinds at degree 18
+//   texts          the matrices of two sheets as text, and the ones of the best
 //   records        the bytes of a record, and sheets that lost one
 mod checks;
 mod complexities;
@@ -19,6 +21,7 @@ mod printing;
 mod records;
 mod searches;
 mod sheets;
+mod texts;
 
 use streams::done_if;
 use streams::end;
@@ -33,6 +36,7 @@ fn run() -> bool {
         && checks::run()
         && searches::run()
         && grades::run()
+        && texts::run()
         && records::run()
         && finish_output()
 }

@@ -1,6 +1,8 @@
 // Words, numbers and refusals on standard output. Each returns whether it was written; if not, a line has said so.
+use normal::grade_number;
 use refusals::Refusal;
 use refusals::Value;
+use sheet::Issued;
 use streams::write_output;
 
 pub(crate) fn say(words: &[u8]) -> bool {
@@ -37,5 +39,18 @@ pub(crate) fn say_value(words: &[u8], value: Value) -> bool {
     match value {
         Value::Refused(refusal) => say_refusal(refusal),
         Value::Done(number) => say_number(b"", number) && end_line(),
+    }
+}
+
+// What building a sheet or reading a text answers.
+pub(crate) fn say_issued(issued: Issued) -> bool {
+    match issued {
+        Issued::Refused(refusal) => say_refusal(refusal),
+        Issued::Done(summary) => {
+            let grade = summary.grade;
+            say_number(b"complexity ", summary.complexity as u64)
+                && say_number(b", grade ", grade_number(grade))
+                && end_line()
+        }
     }
 }
