@@ -1,8 +1,8 @@
 //! Times the calls of the desk's archive beside `plain`, the independent
 //! implementation, in one program.
 //!
-//! `desk calls` times the calls on numbers, sheets and lists; `desk search 20`
-//! the searches, and gives each about so many seconds. Every line printed is a
+//! `desk calls` times the calls on numbers, sheets, lists and texts; `desk
+//! search 20` the searches, and gives each about so many seconds. Every line printed is a
 //! measurement or an answer; answers of one name are the same for every program
 //! that `bench/run` starts:
 //!
@@ -12,8 +12,8 @@
 //! answer NAME PROGRAM NUMBERS
 //! ```
 //!
-//! In `desk/`: `rounds` takes times, `inputs` draws what is asked, `calls` and
-//! `searches` ask it.
+//! In `desk/`: `rounds` takes times, `inputs` draws what is asked, `calls`,
+//! `texts` and `searches` ask it.
 
 #[path = "desk/calls.rs"]
 mod calls;
@@ -26,6 +26,8 @@ mod random;
 mod rounds;
 #[path = "desk/searches.rs"]
 mod searches;
+#[path = "desk/texts.rs"]
+mod texts;
 
 use std::env;
 use std::process::exit;

@@ -2,16 +2,18 @@
 // desk.rs, whose answers they have to match:
 //
 //   ntl calls            GF2E multiply and square, IterIrredTest, mat_GF2 inversion, and algorithm 3 with the test of f, which is
-//                        what the desk's build has to do; GF2E inv and div on normal coordinates, which are converted and back
+//                        what the desk's build has to do; GF2E inv and div on normal coordinates, which are converted and back;
+//                        the text of all matrices from GF2E products of all conjugates
 //   ntl search SECONDS   the four searches, each of the two ways in ntl/conjugates.h with about so many seconds
 //
 // In ntl/: rounds.h takes times, words.h turns NTL's numbers into words and back, basis.h is algorithm 3, conjugates.h and search.h
-// are algorithm 2, sheet.h converts.
+// are algorithm 2, sheet.h converts, text.h writes texts.
 #include "ntl/basis.h"
 #include "ntl/conjugates.h"
 #include "ntl/rounds.h"
 #include "ntl/search.h"
 #include "ntl/sheet.h"
+#include "ntl/text.h"
 #include "ntl/words.h"
 #include <NTL/GF2E.h>
 #include <NTL/GF2XFactoring.h>
@@ -138,6 +140,38 @@ static void run_divisions(word f) {
     });
 }
 
+// One number for the bytes of all texts, as desk/texts.rs has it.
+static word digest(const std::vector<std::string> &texts) {
+    word sum = 0xcbf29ce484222325;
+    for (const std::string &text : texts)
+        for (unsigned char byte : text) sum = (sum ^ byte) * 0x100000001b3;
+    return sum;
+}
+
+// The text of all matrices of a normal element. One that is read is compared with the right one, after the test of f.
+static void run_texts(word f) {
+    const GF2X modulus = polynomial(f);
+    GF2E::init(modulus);
+    const Inputs inputs;
+    const std::string degree = std::to_string(GF2E::degree());
+    Text text(GF2E::degree());
+    std::vector<std::string> texts;
+    for (word normal : inputs.normal) {
+        text.write(normal);
+        texts.push_back(text.bytes());
+    }
+    std::printf("answer texts-%s ntl %llu\n", degree.c_str(), (unsigned long long)digest(texts));
+    measure(("write_matrices-" + degree).c_str(), 16, [&](word i) {
+        text.write(inputs.normal[i % 16]);
+        return text.last();
+    });
+    measure(("read_matrices-" + degree).c_str(), 16, [&](word i) -> word {
+        if (!IterIrredTest(modulus)) return 0;
+        const word complexity = text.write(inputs.normal[i % 16]);
+        return text.bytes() == texts[i % 16] ? complexity : 0;
+    });
+}
+
 struct Search {
     const char *name;
     word f;
@@ -180,7 +214,10 @@ int main(int count, char **words) {
     if (count == 2 && !std::strcmp(words[1], "calls")) {
         std::printf("version ntl %s\n", NTL_VERSION);
         run_calls();
-        for (word f : by_degree) run_divisions(f);
+        for (word f : by_degree) {
+            run_divisions(f);
+            run_texts(f);
+        }
     } else if (count == 3 && !std::strcmp(words[1], "search")) {
         for (const Search &search : searches) {
             run_search(search, "ntl", bench::search<ByElements>, std::atof(words[2]));

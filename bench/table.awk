@@ -3,7 +3,7 @@
 
 BEGIN {
     calls = "multiply square check-irreducible check-product build read convert-one times-46 inverse-46 quotient-46"
-    calls = calls " convert-4096 convert-4096-singly"
+    calls = calls " convert-4096 convert-4096-singly write_matrices-46 read_matrices-46"
     label["multiply"] = "multiply"
     label["square"] = "square"
     label["check-irreducible"] = "check, f irreducible"
@@ -16,7 +16,9 @@ BEGIN {
     label["quotient-46"] = "quotient"
     label["convert-4096"] = "convert 4,096; plain by its list"
     label["convert-4096-singly"] = "convert 4,096; plain by 4,096 single calls"
-    by_degree = "times inverse quotient"
+    label["write_matrices-46"] = "write_matrices"
+    label["read_matrices-46"] = "read_matrices"
+    by_degree = "times inverse quotient write_matrices read_matrices"
     degrees = "4 8 16 20 24 32"
     searches = "search-16 search-20 search-46-from-0 search-46-from-2^45"
     label["search-16"] = "degree 16, the whole field, f = 2^16+43"
@@ -113,24 +115,34 @@ function call_head() {
     print "|---|---|---|---|---|---|"
 }
 
-function goal(text, ratio, met) {
-    printf "| %s | %s | %s |\n", text, ratio == 0 ? "-" : digits(ratio), ratio == 0 ? "not measured" : met ? "yes" : "no"
+# What was measured is a ratio or a time, as it is to be shown.
+function goal(text, measured, met) {
+    printf "| %s | %s | %s |\n", text, measured, measured == "-" ? "not measured" : met ? "yes" : "no"
+}
+
+function ratio_goal(text, ratio, met) {
+    goal(text, ratio == 0 ? "-" : digits(ratio), met)
 }
 
 function time_goal(text, call, program, most,    ratio) {
     ratio = time_of(call, program) == 0 ? 0 : time_of(call, "desk") / time_of(call, program)
-    goal(text, ratio, ratio <= most)
+    ratio_goal(text, ratio, ratio <= most)
 }
 
 # A call of the desk beside another one of its own.
 function own_goal(text, call, other, most,    ratio) {
     ratio = time_of(other, "desk") == 0 ? 0 : time_of(call, "desk") / time_of(other, "desk")
-    goal(text, ratio, ratio <= most)
+    ratio_goal(text, ratio, ratio <= most)
+}
+
+# A call of the desk alone, and the most nanoseconds that it may take.
+function alone_goal(text, call, most) {
+    goal(text, shown_time(time_of(call, "desk")), time_of(call, "desk") <= most)
 }
 
 function rate_goal(search, program, name,    ratio) {
     ratio = rate_of(search, program) == 0 ? 0 : rate_of(search, "desk") / rate_of(search, program)
-    goal("search, " label[search] ": at least 12 times the elements of " name, ratio, ratio >= 12)
+    ratio_goal("search, " label[search] ": at least 12 times the elements of " name, ratio, ratio >= 12)
 }
 
 END {
@@ -157,13 +169,15 @@ END {
             rate_cells(name, "ntl"), rate_cells(name, "ntl-words"), answer[name]
     }
 
-    print "\n| goal | ratio | met |"
+    print "\n| goal | ratio or time | met |"
     print "|---|---|---|"
     time_goal("multiply: at most NTL's time", "multiply", "ntl", 1)
     time_goal("check, f irreducible: at most 4 times NTL's time", "check-irreducible", "ntl", 4)
     time_goal("check, f a product: at most 4 times NTL's time", "check-product", "ntl", 4)
     time_goal("convert 4,096: at most a tenth of 4,096 single conversions in plain", "convert-4096-singly", "plain", 0.1)
     own_goal("inverse: at most 4 times the time of `times` in this run", "inverse-46", "times-46", 4)
+    alone_goal("write_matrices: at most 1 ms", "write_matrices-46", 1e6)
+    alone_goal("read_matrices: at most 1 ms", "read_matrices-46", 1e6)
     for (i = 2; i <= count; i++) {
         rate_goal(list[i], "ntl", "NTL")
         rate_goal(list[i], "ntl-words", "NTL, words")

@@ -1,13 +1,9 @@
 //! The calls on numbers, sheets and lists, each beside plain's.
 
 use crate::inputs::{Inputs, F, LOWER, OPERANDS, PRODUCT, SHEETS};
-use crate::rounds::{folded, pair};
+use crate::rounds::{fold, pair};
+use crate::texts;
 use sabrentuglio::{raw, MAX_LIST};
-
-/// Folds the answers of calls 0, 1, .. below `times`.
-fn fold(times: u64, mut call: impl FnMut(usize) -> u64) -> u64 {
-    (0..times as usize).fold(0, |sum, i| folded(sum, call(i)))
-}
 
 /// Runs all of them.
 pub fn run() {
@@ -18,8 +14,11 @@ pub fn run() {
     conversions(&inputs);
     lists(&inputs);
     through_table(&inputs);
+    texts::run(&inputs);
     for f in LOWER {
-        through_table(&Inputs::new(f));
+        let inputs = Inputs::new(f);
+        through_table(&inputs);
+        texts::run(&inputs);
     }
 }
 

@@ -32,7 +32,9 @@ pub const SHEETS: usize = 16;
 
 /// One set of inputs.
 pub struct Inputs {
-    /// The degree of its polynomial.
+    /// Its polynomial.
+    pub f: u64,
+    /// The degree of the polynomial.
     pub degree: u32,
     /// Left operands of products.
     pub a: Vec<u64>,
@@ -70,6 +72,7 @@ impl Inputs {
         }
         let list = random.elements(degree, MAX_LIST);
         Inputs {
+            f,
             degree,
             a,
             b,

@@ -30,9 +30,9 @@ pub fn now() -> f64 {
     unsafe { clock() as f64 / 1e6 }
 }
 
-/// One more answer in a fold.
-pub fn folded(sum: u64, answer: u64) -> u64 {
-    sum.rotate_left(1) ^ answer
+/// Folds the answers of calls 0, 1, .. below `times`.
+pub fn fold(times: u64, mut call: impl FnMut(usize) -> u64) -> u64 {
+    (0..times as usize).fold(0, |sum, i| sum.rotate_left(1) ^ call(i))
 }
 
 /// The median of an odd number of times.
