@@ -4,7 +4,7 @@ ghost use mathlib.Core.Path.{_≡_};
 ghost use lib.ListN.{length};
 ghost use Rattle.field.specs.Answers.{checkReport, multiplyReport, squareReport, traceReport};
 ghost use Rattle.sheet.specs.Answers.{buildReport, builtBuffer, readReport, polynomialReport, normalReport, timesReport, inverseReport, quotientReport, polynomialListReport, polynomialList, normalListReport, normalList};
-ghost use Rattle.matrices.specs.Answers.{writeReport, writtenText, textReport};
+ghost use Rattle.matrices.specs.Answers.{writeTextReport, writtenText, readTextReport};
 ghost use Rattle.search.specs.Answers.{searchAnswer, searchReport};
 ghost use Rattle.capi.specs.Answers.{deskValue, deskIssued, deskFound, foundFlag};
 use super::answer::DeskFound;
@@ -125,7 +125,7 @@ pub extern "C" fn desk_quotient(sheet: &[u8], dividend: u64, divisor: u64) -> De
 // The text of the n matrices of a sheet, at the front of the lent text.
 #[no_mangle]
 pub extern "C" fn desk_write_matrices(sheet: &[u8], text: &mut [u8]) -> DeskIssued
-    ensures answer { λ r. ⌜ r ≡ deskIssued (writeReport (now (sheet .entry)) (length (now (text .entry)))) ⌝ }
+    ensures answer { λ r. ⌜ r ≡ deskIssued (writeTextReport (now (sheet .entry)) (length (now (text .entry)))) ⌝ }
     ensures written { λ r. ⌜ now (text .exit) ≡ writtenText (now (sheet .entry)) (now (text .entry)) ⌝ }
 {
     issued_out(matrices::write_matrices(sheet, text))
@@ -134,7 +134,7 @@ pub extern "C" fn desk_write_matrices(sheet: &[u8], text: &mut [u8]) -> DeskIssu
 // Whether the text is that of f and the element.
 #[no_mangle]
 pub extern "C" fn desk_read_matrices(f: u64, element: u64, text: &[u8]) -> DeskIssued
-    ensures { λ r. ⌜ r ≡ deskIssued (textReport f element (now (text .entry))) ⌝ }
+    ensures { λ r. ⌜ r ≡ deskIssued (readTextReport f element (now (text .entry))) ⌝ }
 {
     issued_out(matrices::read_matrices(f, element, text))
 }

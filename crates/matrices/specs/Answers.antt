@@ -2,8 +2,8 @@
 -- lent buffer. "Answering as build does" is said of reading; writing answers so too. Definitions alone.
 --
 --   textIn sheet             the text of the polynomial and the element that a sheet names
---   writeAnswer, ..Report    writing, as functions of its inputs; `writtenText`: what the lent buffer holds at the end
---   textAnswer, ..Report     reading
+--   writeTextAnswer, ..Report    writing, as functions of its inputs; `writtenText`: what the lent buffer holds at the end
+--   readTextAnswer, ..Report     reading
 --
 -- Assumes nothing.
 use mathlib.Core.List.{List}
@@ -16,27 +16,27 @@ use Rattle.sheet.specs.Record.{recordCount, conjugateIn, polynomialIn}
 use Rattle.sheet.specs.Answers.{Issue, issueOf, issuedOf, summaryOf, summaryIn, atFront}
 use Rattle.sheet.specs.declared.answer.Issued.{Issued}
 use Rattle.matrices.specs.Matrices.{matricesText}
-use Rattle.matrices.specs.Orders.{writeOrder, textOrder}
+use Rattle.matrices.specs.Orders.{writeTextOrder, readTextOrder}
 
 -- ---- writing
 
 abbrev pub textIn : (sheet : List ℕ) → List ℕ
 textIn sheet = matricesText (polynomialIn sheet) (recordCount sheet) (conjugateIn sheet 0)
 
-unfoldable pub writeAnswer : (sheet : List ℕ) (room : ℕ) → Issued
-writeAnswer sheet room = issuedOf (firstOf (writeOrder sheet room)) (summaryIn sheet)
+unfoldable pub writeTextAnswer : (sheet : List ℕ) (room : ℕ) → Issued
+writeTextAnswer sheet room = issuedOf (firstOf (writeTextOrder sheet room)) (summaryIn sheet)
 
-unfoldable pub writeReport : (sheet : List ℕ) (room : ℕ) → Issue
-writeReport sheet room = issueOf (firstOf (writeOrder sheet room)) (summaryIn sheet)
+unfoldable pub writeTextReport : (sheet : List ℕ) (room : ℕ) → Issue
+writeTextReport sheet room = issueOf (firstOf (writeTextOrder sheet room)) (summaryIn sheet)
 
--- the text at the front, and bytes past it as they came; on a refusal all as it came
+-- the text at the front, and the bytes past it unchanged; on a refusal the whole buffer is
 unfoldable pub writtenText : (sheet buffer : List ℕ) → List ℕ
-writtenText sheet buffer = left (firstOf (writeOrder sheet (length buffer))) (atFront (textIn sheet) buffer) buffer
+writtenText sheet buffer = left (firstOf (writeTextOrder sheet (length buffer))) (atFront (textIn sheet) buffer) buffer
 
 -- ---- "Reading needs f and the element too."
 
-unfoldable pub textAnswer : (f a : ℕ) (text : List ℕ) → Issued
-textAnswer f a text = issuedOf (firstOf (textOrder f a text)) (summaryOf f (degree f) a)
+unfoldable pub readTextAnswer : (f a : ℕ) (text : List ℕ) → Issued
+readTextAnswer f a text = issuedOf (firstOf (readTextOrder f a text)) (summaryOf f (degree f) a)
 
-unfoldable pub textReport : (f a : ℕ) (text : List ℕ) → Issue
-textReport f a text = issueOf (firstOf (textOrder f a text)) (summaryOf f (degree f) a)
+unfoldable pub readTextReport : (f a : ℕ) (text : List ℕ) → Issue
+readTextReport f a text = issueOf (firstOf (readTextOrder f a text)) (summaryOf f (degree f) a)

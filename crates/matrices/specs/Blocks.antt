@@ -1,5 +1,12 @@
--- Lists put together in order: one more at the end, term by term, and blocks of one length; and the lines, the matrices and the text as
--- such lists.
+-- Lists put together in order, and the lines, the matrices and the text as such lists.
+--
+--   listed-next, inOrder-next           one more at the end
+--   inOrder-ext, text-ext               term by term
+--   inOrder-length, inOrder-drop        blocks of one length: how long they are, and where each stands
+--   line-length .. text-length          the bytes of a line, of a matrix and of the text
+--   text-line                           line i of matrix k, by its place
+--   lines-size-most, text-size-most     bounds
+--
 -- Assumes nothing.
 use mathlib.Core.Path.{_≡_, refl, sym, ap, ap₂, _∙_}
 use mathlib.Core.List.{List, [], _∷_, _++_, append-assoc, append-nil}

@@ -44,8 +44,8 @@ use Rattle.sheet.specs.declared.answer.Summary.{Summary}
 use Rattle.sheet.specs.declared.answer.Issued.{Issued}
 use Rattle.sheet.specs.declared.answer.Issued.the-variants as issued
 use Rattle.matrices.specs.Matrices.{textBytes, matricesText, textSize}
-use Rattle.matrices.specs.Orders.{matchRule, writeOrder, matchOrder, textOrder}
-use Rattle.matrices.specs.Answers.{textIn, writeAnswer, writeReport, writtenText, textAnswer, textReport}
+use Rattle.matrices.specs.Orders.{matchRule, writeTextOrder, matchOrder, readTextOrder}
+use Rattle.matrices.specs.Answers.{textIn, writeTextAnswer, writeTextReport, writtenText, readTextAnswer, readTextReport}
 use Rattle.matrices.specs.Turned.{Twice, turned, turned-text}
 use Rattle.matrices.specs.Judging.{write-done-exactly, write-room-exactly}
 use Rattle.matrices.specs.Exact.{matrices-size, written-front, written-kept}
@@ -72,17 +72,17 @@ built-verdict f n a o accepts {r} er flag rows text twice {c} ec =
     ∙ ap checkedOf (sym (normal-passed f n a er flag (matchRule text (matricesText f n a) ∷ [])))
 
 module _ (f a : ℕ) (text : List ℕ) where
-  pub text-refused : {r : Refusal} → firstOf (textOrder f a text) ≡ refuse (r .number) (r .place)
-      → (issued.Refused r ≡ textAnswer f a text) × (issuedReport (issued.Refused r) ≡ textReport f a text)
-  unfolding textAnswer textReport
-  text-refused {r} e = issued-promised (firstOf (textOrder f a text)) (summaryOf f (degree f) a) (answer-refused issued.Refused _ {r = r} e)
+  pub text-refused : {r : Refusal} → firstOf (readTextOrder f a text) ≡ refuse (r .number) (r .place)
+      → (issued.Refused r ≡ readTextAnswer f a text) × (issuedReport (issued.Refused r) ≡ readTextReport f a text)
+  unfolding readTextAnswer readTextReport
+  text-refused {r} e = issued-promised (firstOf (readTextOrder f a text)) (summaryOf f (degree f) a) (answer-refused issued.Refused _ {r = r} e)
 
-  pub text-rest : (n : ℕ) {r : Issued} → n ≡ degree f → firstOf (textOrder f a text) ≡ firstOf (fieldOrder f ++ matchOrder f (degree f) a text)
+  pub text-rest : (n : ℕ) {r : Issued} → n ≡ degree f → firstOf (readTextOrder f a text) ≡ firstOf (fieldOrder f ++ matchOrder f (degree f) a text)
       → r ≡ issuedOf (firstOf (fieldOrder f ++ matchOrder f n a text)) (summaryOf f n a)
-      → (r ≡ textAnswer f a text) × (issuedReport r ≡ textReport f a text)
-  unfolding textAnswer textReport
+      → (r ≡ readTextAnswer f a text) × (issuedReport r ≡ readTextReport f a text)
+  unfolding readTextAnswer readTextReport
   text-rest n {r} en e er =
-      issued-promised (firstOf (textOrder f a text)) (summaryOf f (degree f) a)
+      issued-promised (firstOf (readTextOrder f a text)) (summaryOf f (degree f) a)
       (er ∙ ap (λ (k : ℕ). issuedOf (firstOf (fieldOrder f ++ matchOrder f k a text)) (summaryOf f k a)) en
       ∙ ap (λ (w : Verdict). issuedOf w (summaryOf f (degree f) a)) (sym e))
 
@@ -90,23 +90,23 @@ module _ (f a : ℕ) (text : List ℕ) where
 
 module _ (sheet text : List ℕ) where
   -- the clauses of the promise, from the answer and the text
-  promised : {r : Issued} {last : List ℕ} → r ≡ writeAnswer sheet (length text) → last ≡ writtenText sheet text
-      → (r ≡ writeAnswer sheet (length text)) × ((issuedReport r ≡ writeReport sheet (length text)) × (last ≡ writtenText sheet text))
-  unfolding writeAnswer writeReport
-  promised er el = let p = issued-promised (firstOf (writeOrder sheet (length text))) (summaryIn sheet) er in (p .0, (p .1, el))
+  promised : {r : Issued} {last : List ℕ} → r ≡ writeTextAnswer sheet (length text) → last ≡ writtenText sheet text
+      → (r ≡ writeTextAnswer sheet (length text)) × ((issuedReport r ≡ writeTextReport sheet (length text)) × (last ≡ writtenText sheet text))
+  unfolding writeTextAnswer writeTextReport
+  promised er el = let p = issued-promised (firstOf (writeTextOrder sheet (length text))) (summaryIn sheet) er in (p .0, (p .1, el))
 
-  pub write-refused : {r : Refusal} → writeAnswer sheet (length text) ≡ issued.Refused r
-      → (issued.Refused r ≡ writeAnswer sheet (length text)) × ((issuedReport (issued.Refused r) ≡ writeReport sheet (length text)) × (text ≡ writtenText sheet text))
+  pub write-refused : {r : Refusal} → writeTextAnswer sheet (length text) ≡ issued.Refused r
+      → (issued.Refused r ≡ writeTextAnswer sheet (length text)) × ((issuedReport (issued.Refused r) ≡ writeTextReport sheet (length text)) × (text ≡ writtenText sheet text))
   write-refused {r} e = promised (sym e) (sym (written-kept sheet text r e))
 
   module _ (s : Summary) (e : readAnswer sheet ≡ issued.Done s) where
-    pub write-short : length text < textSize (recordCount sheet) → writeAnswer sheet (length text) ≡ issued.Refused (refusalAt 6 0)
+    pub write-short : length text < textSize (recordCount sheet) → writeTextAnswer sheet (length text) ≡ issued.Refused (refusalAt 6 0)
     write-short h = write-room-exactly sheet (length text) .1 (e ∙ ap issued.Done (sym (answered-sheet sheet s e .1)), h)
 
     -- the text that was put is made of the table's rows twice over
     pub write-done : textSize (recordCount sheet) ≤ length text → (table rows last : List ℕ) → table ≡ padded (tableRowsIn sheet) → Twice (recordCount sheet) table rows
         → last ≡ pasted text 0 (textBytes (recordCount sheet) (turned (recordCount sheet) rows))
-        → (issued.Done s ≡ writeAnswer sheet (length text)) × ((issuedReport (issued.Done s) ≡ writeReport sheet (length text)) × (last ≡ writtenText sheet text))
+        → (issued.Done s ≡ writeTextAnswer sheet (length text)) × ((issuedReport (issued.Done s) ≡ writeTextReport sheet (length text)) × (last ≡ writtenText sheet text))
     unfolding pasted
     write-done h table rows last et twice el =
         let f = polynomialIn sheet in

@@ -1,5 +1,11 @@
--- The longest common beginning of two lists, and the lines ended in it: that it is the longest; what it is against a block of lines and
--- what follows the block; and how a scan finds it byte by byte.
+-- The longest common beginning of two lists, and the lines ended in it.
+--
+--   count-append, count-common                  how often a byte stands in two lists, and in what they share
+--   common-left, common-right, common-longest   it is a beginning of both lists, and none is longer
+--   lines-whole, lines-part, lines-most         the lines shared with a block and what follows it: all of the block's, or not, or at most all
+--   lines-all                                   a list with all lines of another begins with it
+--   lines-other, lines-next                     what a scan finds, byte by byte
+--
 -- Assumes nothing.
 use mathlib.Core.Path.{_≡_, refl, sym, ap, _∙_}
 use mathlib.Core.Logic.{_⊎_, inl, inr, ⊎-elim}
@@ -26,7 +32,7 @@ module _ (b : ℕ) where
   count-append (a ∷ x) y =
       ap (λ (m : ℕ). cond (eqb a b) 1 0 + m) (count-append x y) ∙ sym (add-assoc (cond (eqb a b) 1 0) (countOf b x) (countOf b y))
 
-  count-common : (x y : List ℕ) → countOf b (common x y) ≤ countOf b y
+  pub count-common : (x y : List ℕ) → countOf b (common x y) ≤ countOf b y
   unfolding countOf common
   count-common [] y = omega arith
   count-common (a ∷ x) [] = omega arith

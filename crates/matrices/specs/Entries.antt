@@ -1,15 +1,21 @@
--- The entries of the matrices are those of the table: entry (i,j) of T_k is t((j-i) mod n, (k-i) mod n). For c_i c_j is c_0 c_(j-i), squared i
--- times, and each squaring turns bit k into bit k+1.
+-- The entries of the matrices are those of the table. For c_i c_j is c_0 c_(j-i), squared i times, and each squaring turns bit k into bit
+-- k+1.
+--
+--   product-row, row-lt   the coordinates of c_i c_j: a row of the table, rotated i places
+--   entry-table           entry (i,j) of T_k is t((j-i) mod n, (k-i) mod n)
+--   text-of-conjugate     all conjugates of a normal element have the same text
+--
 -- Assumes nothing.
 use mathlib.Core.Path.{_≡_, sym, ap, _∙_}
 use mathlib.Core.Logic.{⊎-elim}
+use mathlib.Core.List.{List}
 use Prim.Native.Nat.{ℕ, zero, suc, _+_, _-_, _%_, _^_, _≤_, _<_}
 use native.Mathlib.Nat.{mod-lt, mod-eq-of-lt, mod-add-mod, add-mod-right}
 use native.Mathlib.Omega.{arith}
 use Rattle.gf2.specs.Numbers.{order}
 use Rattle.gf2.specs.Poly.{mulMod, Degree}
 use Rattle.field.specs.Field.{squared}
-use Rattle.field.specs.Frobenius.{squared-mulMod, squared-add, squared-fixes}
+use Rattle.field.specs.Frobenius.{squared-lt, squared-mulMod, squared-add, squared-fixes}
 use Rattle.field.specs.Ring.{mulMod-lt}
 use Rattle.rows.specs.Bits.{bitOf}
 use Rattle.rows.specs.Rows.{Independent}
@@ -18,10 +24,12 @@ use Rattle.normal.specs.TableProduct.{rotatedBy, entry}
 use Rattle.normal.specs.Rotation.{rotate-bit}
 use Rattle.normal.specs.Turns.{rotatedBy-lt}
 use Rattle.normal.specs.Halves.{squared-coordinates}
-use Rattle.normal.specs.Coordinates.{coordinates-are, tableRows-at}
+use Rattle.normal.specs.Coordinates.{coordinates-are, normal-means, tableRows-at}
+use Rattle.normal.specs.Conjugated.{conjugate-normal, table-of-conjugate}
 use Rattle.sheet.specs.Issuing.{based-degree, based-two, based-returns, based-free}
 use Rattle.sheet.specs.Sheets.{Based}
-use Rattle.matrices.specs.Matrices.{matrixEntry}
+use Rattle.matrices.specs.Matrices.{matrixEntry, matricesText}
+use Rattle.matrices.specs.Blocks.{text-ext}
 
 -- ---- i places back in a cycle of n
 
@@ -99,3 +107,29 @@ module _ (f n a : ℕ) (b : Based f n a) where
       ap (λ (v : ℕ). bitOf v k) (product-row i j hi hj)
       ∙ turned-bit n i (coordinates f n a (mulMod f n a (squared f n m a))) k pos (row-lt m) (omega arith) hk
       ∙ ap (λ (v : ℕ). bitOf v ((k + (n - i)) % n)) (sym (tableRows-at f n a m (mod-lt (j + (n - i)) pos)))
+
+-- ---- conjugates
+
+module _ (f n a : ℕ) (b : Based f n a) (m : ℕ) (within : m ≤ n) where
+  abbrev conjugate : ℕ
+  conjugate = squared f n m a
+
+  conjugate-based : Based f n (squared f n m a)
+  conjugate-based =
+      let normal = conjugate-normal f n (based-degree f n a b) (based-two f n a b) (based-returns f n a b) a (b .below) m within (based-free f n a b) in
+      record {
+        accepted = b .accepted;
+        has-degree = b .has-degree;
+        below = squared-lt f n (based-degree f n a b) m a (b .below);
+        is-normal = normal-means f n conjugate .1 normal;
+      }
+
+  -- they have the same table
+  pub text-of-conjugate : matricesText f n (squared f n m a) ≡ matricesText f n a
+  unfolding matricesText
+  text-of-conjugate =
+      let tables = table-of-conjugate f n (based-degree f n a b) (based-two f n a b) (based-returns f n a b) a (b .below) m within (based-free f n a b) in
+      text-ext n (matrixEntry f n conjugate) (matrixEntry f n a)
+      (λ k i j hk hi hj.
+      entry-table f n conjugate conjugate-based k i j hk hi hj
+      ∙ ap (λ (rows : List ℕ). entry rows ((j + (n - i)) % n) ((k + (n - i)) % n)) tables ∙ sym (entry-table f n a b k i j hk hi hj))

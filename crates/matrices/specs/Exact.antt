@@ -1,10 +1,11 @@
--- What writing leaves in the lent text, and that reading accepts exactly that (document 02, §4): "Prove that the ones written number n times our
--- complexity, and that reading accepts exactly what writing gives for them."
+-- What writing leaves in the lent buffer, and that reading accepts exactly that (document 02, §4): "Prove that the ones written number n
+-- times our complexity, and that reading accepts exactly what writing gives for them."
 --
---   given sheet buffer            the text at the front of the buffer, once it is written
---   written-front, written-kept   what the buffer holds: the text, and the bytes past it as they came; on a refusal all as it came
+--   matrices-size                 the bytes of the text
+--   textGiven sheet buffer        the text at the front of the buffer, once it is written
+--   written-front, written-kept   what the buffer holds: the text, and the bytes past it unchanged; on a refusal it is unchanged
 --   given-text, given-ones        that text, and its ones; `given-degree`: the n of that count
---   Given f a text t              writing gave the text, and answered t, from a sheet of f and a
+--   GivenFor f a text t           writing gave the text, and answered t, from a sheet of f and a
 --   sheet-writes, sheet-gives     from the sheet of f and a: the answer, and the text
 --   reading-accepts               "reading accepts exactly what writing gives for them", with the same answer
 --   builtSheet f a buffer         the sheet at the front of the buffer, once it is built
@@ -33,8 +34,8 @@ use Rattle.sheet.specs.Sheets.{Based, SheetOf}
 use Rattle.sheet.specs.declared.answer.Summary.{Summary}
 use Rattle.sheet.specs.declared.answer.Issued.the-variants as issued
 use Rattle.matrices.specs.Matrices.{matrixEntry, matricesText, textSize}
-use Rattle.matrices.specs.Orders.{countOf, writeOrder, textOrder}
-use Rattle.matrices.specs.Answers.{textIn, writeAnswer, writtenText, textAnswer}
+use Rattle.matrices.specs.Orders.{countOf, writeTextOrder, readTextOrder}
+use Rattle.matrices.specs.Answers.{textIn, writeTextAnswer, writtenText, readTextAnswer}
 use Rattle.matrices.specs.Blocks.{text-length}
 use Rattle.matrices.specs.Counting.{oneByte, ones-written}
 use Rattle.matrices.specs.Judging.{text-right, text-done-exactly, not-refused, write-as-read, write-done-exactly}
@@ -46,21 +47,21 @@ unfolding matricesText
 matrices-size f n a = text-length n (matrixEntry f n a)
 
 -- the first n(n(n+1)+1) bytes of what writing leaves
-abbrev pub given : (sheet buffer : List ℕ) → List ℕ
-given sheet buffer = take (textSize (recordCount sheet)) (writtenText sheet buffer)
+abbrev pub textGiven : (sheet buffer : List ℕ) → List ℕ
+textGiven sheet buffer = take (textSize (recordCount sheet)) (writtenText sheet buffer)
 
-module _ (sheet buffer : List ℕ) (t : Summary) (e : writeAnswer sheet (length buffer) ≡ issued.Done t) where
+module _ (sheet buffer : List ℕ) (t : Summary) (e : writeTextAnswer sheet (length buffer) ≡ issued.Done t) where
   whole : length (textIn sheet) ≡ textSize (recordCount sheet)
   whole = matrices-size (polynomialIn sheet) (recordCount sheet) (conjugateIn sheet 0)
 
-  -- the text at the front, and the bytes past it as they came
+  -- the text at the front, and the bytes past it unchanged
   pub written-front : writtenText sheet buffer ≡ textIn sheet ++ drop (textSize (recordCount sheet)) buffer
-  unfolding writtenText writeAnswer left
+  unfolding writtenText writeTextAnswer left
   written-front =
-      ap (λ (v : Verdict). left v (atFront (textIn sheet) buffer) buffer) (done-clear (firstOf (writeOrder sheet (length buffer))) (summaryIn sheet) t e)
+      ap (λ (v : Verdict). left v (atFront (textIn sheet) buffer) buffer) (done-clear (firstOf (writeTextOrder sheet (length buffer))) (summaryIn sheet) t e)
       ∙ ap (λ (k : ℕ). textIn sheet ++ drop k buffer) whole
 
-  pub given-text : given sheet buffer ≡ textIn sheet
+  pub given-text : textGiven sheet buffer ≡ textIn sheet
   given-text =
       ap (take (textSize (recordCount sheet))) written-front
       ∙ take-at (textIn sheet) (drop (textSize (recordCount sheet)) buffer) (textSize (recordCount sheet)) whole
@@ -73,49 +74,49 @@ module _ (sheet buffer : List ℕ) (t : Summary) (e : writeAnswer sheet (length 
   given-degree = sym (ap (λ (s : Summary). s .degree) (read .1))
 
   -- "the ones written number n times our complexity": the complexity that the call answers
-  pub given-ones : countOf oneByte (given sheet buffer) ≡ recordCount sheet * t .complexity
+  pub given-ones : countOf oneByte (textGiven sheet buffer) ≡ recordCount sheet * t .complexity
   unfolding summaryOf
   given-ones =
       ap (countOf oneByte) given-text ∙ ones-written (polynomialIn sheet) (recordCount sheet) (conjugateIn sheet 0) (read .0 .based)
       ∙ ap (λ (s : Summary). recordCount sheet * s .complexity) (read .1)
 
--- on a refusal all is as it came
-pub written-kept : (sheet buffer : List ℕ) (r : Refusal) → writeAnswer sheet (length buffer) ≡ issued.Refused r → writtenText sheet buffer ≡ buffer
-unfolding writtenText writeAnswer left answerOf
-written-kept sheet buffer r e = go (firstOf (writeOrder sheet (length buffer))) refl
+-- on a refusal the buffer is unchanged
+pub written-kept : (sheet buffer : List ℕ) (r : Refusal) → writeTextAnswer sheet (length buffer) ≡ issued.Refused r → writtenText sheet buffer ≡ buffer
+unfolding writtenText writeTextAnswer left answerOf
+written-kept sheet buffer r e = go (firstOf (writeTextOrder sheet (length buffer))) refl
   where
-    go : (v : Verdict) → firstOf (writeOrder sheet (length buffer)) ≡ v → writtenText sheet buffer ≡ buffer
+    go : (v : Verdict) → firstOf (writeTextOrder sheet (length buffer)) ≡ v → writtenText sheet buffer ≡ buffer
     go clear c = absurd (not-refused (summaryIn sheet) r (rw c at e))
     go (refuse k p) c = rw c refl
 
 -- ---- "reading accepts exactly what writing gives for them"
 
 -- a text that writing gave, answering t, from a sheet whose polynomial is f and whose element is a
-pub record Given (f a : ℕ) (text : List ℕ) (t : Summary) : Type 0 where
+pub record GivenFor (f a : ℕ) (text : List ℕ) (t : Summary) : Type 0 where
   pub sheet : List ℕ
   pub buffer : List ℕ
   pub polynomial : polynomialIn sheet ≡ f
   pub element : conjugateIn sheet 0 ≡ a
-  pub answer : writeAnswer sheet (length buffer) ≡ issued.Done t
-  pub front : text ≡ given sheet buffer
+  pub answer : writeTextAnswer sheet (length buffer) ≡ issued.Done t
+  pub front : text ≡ textGiven sheet buffer
 
 module _ (f a : ℕ) (sheet : List ℕ) (s : SheetOf f (degree f) a sheet) (buffer : List ℕ) (fits : textSize (degree f) ≤ length buffer) where
   sheet-text : textIn sheet ≡ matricesText f (degree f) a
   sheet-text = rw (held-polynomial f (degree f) a sheet s, held-count f (degree f) a sheet s, held-element f (degree f) a sheet s) refl
 
   -- on the sheet of f and a writing answers what build answers
-  pub sheet-writes : writeAnswer sheet (length buffer) ≡ issued.Done (summaryOf f (degree f) a)
+  pub sheet-writes : writeTextAnswer sheet (length buffer) ≡ issued.Done (summaryOf f (degree f) a)
   sheet-writes =
       write-as-read sheet (length buffer) (rw (held-count f (degree f) a sheet s) fits) ∙ read-answered f (degree f) a sheet s
 
-  pub sheet-gives : given sheet buffer ≡ matricesText f (degree f) a
+  pub sheet-gives : textGiven sheet buffer ≡ matricesText f (degree f) a
   sheet-gives = given-text sheet buffer (summaryOf f (degree f) a) sheet-writes ∙ sheet-text
 
 module _ (f a : ℕ) (text : List ℕ) (t : Summary) where
-  accepted-given : textAnswer f a text ≡ issued.Done t → Given f a text t
-  unfolding textAnswer
+  accepted-given : readTextAnswer f a text ≡ issued.Done t → GivenFor f a text t
+  unfolding readTextAnswer
   accepted-given e =
-      let r = text-right f a text (done-clear (firstOf (textOrder f a text)) (summaryOf f (degree f) a) t e) in
+      let r = text-right f a text (done-clear (firstOf (readTextOrder f a text)) (summaryOf f (degree f) a) t e) in
       let sheet : List ℕ = sheetBytes f (degree f) a in
       let s : SheetOf f (degree f) a sheet = record { based = r .0; bytes = refl } in
       let fits : textSize (degree f) ≤ length text = omega (arith, ap length (r .1) ∙ matrices-size f (degree f) a) in
@@ -128,7 +129,7 @@ module _ (f a : ℕ) (text : List ℕ) (t : Summary) where
         front = r .1 ∙ sym (sheet-gives f a sheet s text fits);
       }
 
-  given-accepted : Given f a text t → textAnswer f a text ≡ issued.Done t
+  given-accepted : GivenFor f a text t → readTextAnswer f a text ≡ issued.Done t
   given-accepted g =
       let x = answered-sheet (g .sheet) t (write-done-exactly (g .sheet) (length (g .buffer)) t .0 (g .answer) .0) in
       let s : SheetOf f (recordCount (g .sheet)) a (g .sheet) = rw (g .polynomial, g .element) at (x .0) in
@@ -138,7 +139,7 @@ module _ (f a : ℕ) (text : List ℕ) (t : Summary) where
       let same : summaryOf f (recordCount (g .sheet)) a ≡ t = rw (g .polynomial, g .element) at (x .1) in
       text-done-exactly f a text .1 (rw d (s .based), rw d right) ∙ ap issued.Done (rw d same)
 
-  pub reading-accepts : (textAnswer f a text ≡ issued.Done t) ↔ Given f a text t
+  pub reading-accepts : (readTextAnswer f a text ≡ issued.Done t) ↔ GivenFor f a text t
   reading-accepts = (accepted-given, given-accepted)
 
 -- ---- over the sheet that build wrote
@@ -151,7 +152,7 @@ module _ (f a : ℕ) (buffer : List ℕ) (t : Summary) (built : buildAnswer f a 
   based = answered-based f a (length buffer) t built
 
   -- a text is accepted, with the answer of build, exactly if it is the right one
-  accepted-right : (text : List ℕ) → (textAnswer f a text ≡ issued.Done t) ↔ (text ≡ matricesText f (degree f) a)
+  accepted-right : (text : List ℕ) → (readTextAnswer f a text ≡ issued.Done t) ↔ (text ≡ matricesText f (degree f) a)
   accepted-right text = (
     λ e. text-done-exactly f a text .0 (e ∙ ap issued.Done (sym (based .2))) .1,
     λ e. text-done-exactly f a text .1 (based .0, e) ∙ ap issued.Done (based .2),
@@ -162,11 +163,11 @@ module _ (f a : ℕ) (buffer : List ℕ) (t : Summary) (built : buildAnswer f a 
     sheet-of = build-sheet f a (based .0) buffer (based .1)
 
     -- writing from it is done, and answers as build did
-    pub write-built : writeAnswer (builtSheet f a buffer) (length lent) ≡ issued.Done t
+    pub write-built : writeTextAnswer (builtSheet f a buffer) (length lent) ≡ issued.Done t
     write-built = sheet-writes f a (builtSheet f a buffer) sheet-of lent fits ∙ ap issued.Done (based .2)
 
     -- reading is done, and answers as build did, exactly on what writing gave
-    pub reading-built : (text : List ℕ) → (textAnswer f a text ≡ issued.Done t) ↔ (text ≡ given (builtSheet f a buffer) lent)
+    pub reading-built : (text : List ℕ) → (readTextAnswer f a text ≡ issued.Done t) ↔ (text ≡ textGiven (builtSheet f a buffer) lent)
     reading-built text =
         let e = sheet-gives f a (builtSheet f a buffer) sheet-of lent fits in
         (λ p. accepted-right text .0 p ∙ sym e, λ p. accepted-right text .1 (p ∙ e))
@@ -193,5 +194,5 @@ module _ (f a : ℕ) (buffer : List ℕ) (t : Summary) (built : buildAnswer f a 
         ∙ ap (λ (l : List ℕ). textIn sheet ++ l) (drop-of-length-le lent {i = n} size) ∙ append-nil (textIn sheet)
         ∙ sheet-text f a sheet sheet-alone lent room
 
-    pub reading-whole : (text : List ℕ) → (textAnswer f a text ≡ issued.Done t) ↔ (text ≡ writtenText (builtBuffer f a buffer) lent)
+    pub reading-whole : (text : List ℕ) → (readTextAnswer f a text ≡ issued.Done t) ↔ (text ≡ writtenText (builtBuffer f a buffer) lent)
     reading-whole text = (λ p. accepted-right text .0 p ∙ sym text-alone, λ p. accepted-right text .1 (p ∙ text-alone))

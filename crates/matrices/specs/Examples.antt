@@ -1,12 +1,14 @@
--- Two texts in full, by computation from the definitions, and what reading says of some others.
+-- Three texts in full, by computation from the definitions, and what reading says of some others. The third shows the order of indices,
+-- which the first two do not: their tables are symmetric.
 --
---   textOfTwo, textOfThree             the texts of f = 7 and element 2, and of f = 11 and element 3
---   seven-and-two, eleven-and-three    they are; `sizes`, `ones-counted`: their bytes, and their ones, 6 and 15
+--   textOfTwo, textOfThree, textOfFour   the texts of f = 7 and element 2, of f = 11 and element 3, and of f = 19 and element 8
+--   seven-and-two, eleven-and-three, nineteen-and-eight   that they are; `sizes`, `ones-counted`: their bytes, and their ones
 --   Placed text k                      the first line of the text that is not as in the second of them
 --   wrong-lines, missing-lines, extra-lines, other-degree   some of these, and why
 --   answered                           what reading answers for the right text and for three others
 --
--- By hand, for 7 and 2: c_0 c_0 is c_1, c_0 c_1 is c_0 + c_1 and c_1 c_1 is c_0. So T_0 has the lines 01 and 11, and T_1 the lines 11 and 10.
+-- By hand, for 7 and 2: c_0 c_0 is c_1, c_0 c_1 is c_0 + c_1 and c_1 c_1 is c_0. So T_0 has the lines 01 and 11, and T_1 the lines 11 and
+-- 10.
 -- Assumes nothing.
 use mathlib.Core.Path.{_≡_, refl}
 use mathlib.Core.List.{List, [], _∷_, _++_}
@@ -27,10 +29,10 @@ use Rattle.sheet.specs.Orders.{same}
 use Rattle.sheet.specs.Answers.{Issue, issueOf, summaryOf}
 use Rattle.matrices.specs.Matrices.{matrixEntry, inOrder, lineEnd, lineBytes, matrixBytes, textBytes, matricesText, textSize}
 use Rattle.matrices.specs.Orders.{countOf, common, commonLines}
-use Rattle.matrices.specs.Answers.{textReport}
+use Rattle.matrices.specs.Answers.{readTextReport}
 use Rattle.matrices.specs.Counting.{oneByte}
 
--- ---- two texts
+-- ---- three texts
 
 -- "01\n11\n\n11\n10\n\n"
 abbrev pub textOfTwo : List ℕ
@@ -51,14 +53,26 @@ pub eleven-and-three : matricesText 11 3 3 ≡ textOfThree
 unfolding matricesText textBytes matrixBytes lineBytes inOrder listed matrixEntry bitOf coordinates first conjugates conjugatesFrom squared comb mulMod rem reduce product digits digitsFrom _⊕_
 eleven-and-three = refl
 
-pub sizes : (textSize 2 ≡ 14) × (textSize 3 ≡ 39)
-unfolding textSize
-sizes = (refl, refl)
+-- "0010\n0011\n1100\n0101\n\n1010\n0001\n1001\n0110\n\n0011\n0101\n1000\n1100\n\n0110\n1001\n1010\n0100\n\n"
+abbrev pub textOfFour : List ℕ
+textOfFour =
+    48 ∷ 48 ∷ 49 ∷ 48 ∷ 10 ∷ 48 ∷ 48 ∷ 49 ∷ 49 ∷ 10 ∷ 49 ∷ 49 ∷ 48 ∷ 48 ∷ 10 ∷ 48 ∷ 49 ∷ 48 ∷ 49 ∷ 10 ∷ 10
+    ∷ 49 ∷ 48 ∷ 49 ∷ 48 ∷ 10 ∷ 48 ∷ 48 ∷ 48 ∷ 49 ∷ 10 ∷ 49 ∷ 48 ∷ 48 ∷ 49 ∷ 10 ∷ 48 ∷ 49 ∷ 49 ∷ 48 ∷ 10 ∷ 10
+    ∷ 48 ∷ 48 ∷ 49 ∷ 49 ∷ 10 ∷ 48 ∷ 49 ∷ 48 ∷ 49 ∷ 10 ∷ 49 ∷ 48 ∷ 48 ∷ 48 ∷ 10 ∷ 49 ∷ 49 ∷ 48 ∷ 48 ∷ 10 ∷ 10
+    ∷ 48 ∷ 49 ∷ 49 ∷ 48 ∷ 10 ∷ 49 ∷ 48 ∷ 48 ∷ 49 ∷ 10 ∷ 49 ∷ 48 ∷ 49 ∷ 48 ∷ 10 ∷ 48 ∷ 49 ∷ 48 ∷ 48 ∷ 10 ∷ 10 ∷ []
 
--- n times the complexities of the two sheets, 3 and 5 (document 01, "Small numbers to hold it against")
-pub ones-counted : (countOf oneByte textOfTwo ≡ 2 * 3) × (countOf oneByte textOfThree ≡ 3 * 5)
+pub nineteen-and-eight : matricesText 19 4 8 ≡ textOfFour
+unfolding matricesText textBytes matrixBytes lineBytes inOrder listed matrixEntry bitOf coordinates first conjugates conjugatesFrom squared comb mulMod rem reduce product digits digitsFrom _⊕_
+nineteen-and-eight = refl
+
+pub sizes : (textSize 2 ≡ 14) × (textSize 3 ≡ 39) × (textSize 4 ≡ 84) × (textSize 46 ≡ 99498)
+unfolding textSize
+sizes = (refl, refl, refl, refl)
+
+-- n times the complexities of the three sheets, 3, 5 and 7 (document 01, "Small numbers to hold it against")
+pub ones-counted : (countOf oneByte textOfTwo ≡ 2 * 3) × (countOf oneByte textOfThree ≡ 3 * 5) × (countOf oneByte textOfFour ≡ 4 * 7)
 unfolding countOf
-ones-counted = (refl, refl)
+ones-counted = (refl, refl, refl)
 
 -- ---- places
 
@@ -93,8 +107,8 @@ abbrev unmatched : (place : ℕ) → Issue
 unmatched p = record { number = 14; place = p; degree = 0; complexity = 0; grade = 0 }
 
 -- done as build is; 14 for another digit, and for a byte after the end; and 5 comes before 14
-pub answered : (textReport 11 3 textOfThree ≡ record { number = 0; place = 0; degree = 3; complexity = 5; grade = 2 })
-    × (textReport 11 3 (set textOfThree 5 49) ≡ unmatched 1) × (textReport 11 3 (textOfThree ++ (48 ∷ [])) ≡ unmatched 12)
-    × (textReport 11 2 [] ≡ record { number = 5; place = 0; degree = 0; complexity = 0; grade = 0 })
-unfolding textReport issueOf summaryOf firstOf same commonLines common countOf tooLarge degreeOutside divided strays divides degree some first normal independent conjugates conjugatesFrom squared tableRows listed coordinates comb mulMod rem reduce product digits digitsFrom _⊕_ complexity ones onesIn gradeOf kindOf gradeNumber powMod matricesText textBytes matrixBytes lineBytes inOrder matrixEntry bitOf
+pub answered : (readTextReport 11 3 textOfThree ≡ record { number = 0; place = 0; degree = 3; complexity = 5; grade = 2 })
+    × (readTextReport 11 3 (set textOfThree 5 49) ≡ unmatched 1) × (readTextReport 11 3 (textOfThree ++ (48 ∷ [])) ≡ unmatched 12)
+    × (readTextReport 11 2 [] ≡ record { number = 5; place = 0; degree = 0; complexity = 0; grade = 0 })
+unfolding readTextReport issueOf summaryOf firstOf same commonLines common countOf tooLarge degreeOutside divided strays divides degree some first normal independent conjugates conjugatesFrom squared tableRows listed coordinates comb mulMod rem reduce product digits digitsFrom _⊕_ complexity ones onesIn gradeOf kindOf gradeNumber powMod matricesText textBytes matrixBytes lineBytes inOrder matrixEntry bitOf
 answered = (refl, refl, refl, refl)

@@ -51,25 +51,25 @@ total-swap zero k g = sym (total-none k (λ j. 0) (λ j. refl))
 total-swap (suc m) k g =
     ap (λ (x : ℕ). total k (g 0) + x) (total-swap m k (λ i. g (suc i))) ∙ sym (total-add k (g 0) (λ j. total m (λ i. g (suc i) j)))
 
-turn : (m : ℕ) (h : ℕ → ℕ) → total (suc m) (λ j. h ((j + 1) % suc m)) ≡ total (suc m) h
-turn m h =
+total-turn : (m : ℕ) (h : ℕ → ℕ) → total (suc m) (λ j. h ((j + 1) % suc m)) ≡ total (suc m) h
+total-turn m h =
     total-last m (λ j. h ((j + 1) % suc m))
     ∙ ap₂ _+_
     (total-ext m (λ j. h ((j + 1) % suc m)) (λ j. h (suc j)) (λ j l. ap h (mod-eq-of-lt {n = j + 1} (omega arith) ∙ add-one j)))
     (ap h (ap (λ (x : ℕ). x % suc m) (add-one m) ∙ mod-self (suc m)))
     ∙ add-comm (total m (λ j. h (suc j))) (h 0) ∙ sym (unfold total in refl)
 
-turns : (m i : ℕ) (h : ℕ → ℕ) → total (suc m) (λ j. h ((j + i) % suc m)) ≡ total (suc m) h
-turns m zero h =
+total-turns : (m i : ℕ) (h : ℕ → ℕ) → total (suc m) (λ j. h ((j + i) % suc m)) ≡ total (suc m) h
+total-turns m zero h =
     total-ext (suc m) (λ j. h ((j + 0) % suc m)) h (λ j l. ap h (ap (λ (x : ℕ). x % suc m) (add-zero j) ∙ mod-eq-of-lt l))
-turns m (suc i) h =
+total-turns m (suc i) h =
     total-ext (suc m) (λ j. h ((j + suc i) % suc m)) (λ j. h (((j + 1) % suc m + i) % suc m))
     (λ j l. ap h (let e : j + suc i ≡ j + 1 + i = omega arith in ap (λ (x : ℕ). x % suc m) e ∙ sym (mod-add-mod (j + 1) (suc m) i)))
-    ∙ turn m (λ x. h ((x + i) % suc m)) ∙ turns m i h
+    ∙ total-turn m (λ x. h ((x + i) % suc m)) ∙ total-turns m i h
 
 total-cycle : (n : ℕ) → 1 ≤ n → (i : ℕ) (h : ℕ → ℕ) → total n (λ j. h ((j + i) % n)) ≡ total n h
 total-cycle zero pos i h = absurd (not-suc-le-zero pos)
-total-cycle (suc m) pos i h = turns m i h
+total-cycle (suc m) pos i h = total-turns m i h
 
 -- the ones of a number are its bits, summed
 ones-total : (n v : ℕ) → v < 2 ^ n → total n (bitOf v) ≡ ones v

@@ -1,5 +1,5 @@
--- When writing and reading the text of the matrices are done, and what they refuse (document 02, §4): "read them back, answering as build does";
--- "writing has those of reading a sheet, then 6 for a buffer below n(n(n+1)+1) bytes; reading text has 1, 4, 2, 3, 5, then 14".
+-- When writing and reading the text of the matrices are done, and what they refuse (document 02, §4): "read them back, answering as build
+-- does"; "writing has those of reading a sheet, then 6 for a buffer below n(n(n+1)+1) bytes; reading text has 1, 4, 2, 3, 5, then 14".
 --
 --   Right f a text                              f is accepted, a is a normal element, and the text is theirs
 --   basedOrder f a, based-listed                what build and reading a text share: 1, 4, 2, 3, 5, each with place 0
@@ -8,7 +8,8 @@
 --   text-done-exactly                           the same by its answer
 --   text-done-as-build, text-refused-as-build   it answers as build does, and refuses what build refuses, whatever the text
 --   write-as-read, write-refused-as-read        writing answers as reading the sheet does, given the room, and refuses what that refuses
---   write-done-exactly, write-room-exactly      it is done, and refused with 6, exactly if reading the sheet is done and the room is enough, or not
+--   write-done-exactly, write-room-exactly      it is done exactly if reading the sheet is and there is room; else, if that is done, it is 6
+--   not-refused                                 done is not refused
 --
 -- What a sheet is that reading accepts: `read-sheet` in `Issuing` of `sheet`. What writing leaves: `Exact`. 14 and its place: `Places`.
 -- Assumes nothing.
@@ -40,8 +41,8 @@ use Rattle.sheet.specs.Written.{same-refl, same-equal}
 use Rattle.sheet.specs.declared.answer.Summary.{Summary}
 use Rattle.sheet.specs.declared.answer.Issued.the-variants as issued
 use Rattle.matrices.specs.Matrices.{matricesText, textSize}
-use Rattle.matrices.specs.Orders.{textRoomRule, matchRule, writeOrder, textOrder}
-use Rattle.matrices.specs.Answers.{writeAnswer, textAnswer}
+use Rattle.matrices.specs.Orders.{textRoomRule, matchRule, writeTextOrder, readTextOrder}
+use Rattle.matrices.specs.Answers.{writeTextAnswer, readTextAnswer}
 
 -- ---- reading, by its verdict
 
@@ -73,22 +74,22 @@ module _ (f a : ℕ) (text : List ℕ) where
   abbrev right : List ℕ
   right = matricesText f (degree f) a
 
-  pub text-right : firstOf (textOrder f a text) ≡ clear → Right f a text
+  pub text-right : firstOf (readTextOrder f a text) ≡ clear → Right f a text
   text-right c =
       let x = parts-clear (basedOrder f a) (matchRule text right ∷ []) c in
       (order-based f a (x .0), same-equal text right (not-false (same text right) (first-clear (matchRule text right) [] (x .1) .0)))
 
-  pub right-text : Right f a text → firstOf (textOrder f a text) ≡ clear
+  pub right-text : Right f a text → firstOf (readTextOrder f a text) ≡ clear
   right-text r =
       part-clear (basedOrder f a) (matchRule text right ∷ []) (based-order f a (r .0))
       ∙ first-passes (matchRule text right) [] (rw (r .1, same-refl right)) ∙ first-none
 
   -- the right text of an accepted f and a normal element, and nothing else
-  pub text-done-exactly : (textAnswer f a text ≡ issued.Done (summaryOf f (degree f) a)) ↔ Right f a text
-  unfolding textAnswer answerOf
+  pub text-done-exactly : (readTextAnswer f a text ≡ issued.Done (summaryOf f (degree f) a)) ↔ Right f a text
+  unfolding readTextAnswer answerOf
   text-done-exactly =
       let s : Summary = summaryOf f (degree f) a in
-      (λ e. text-right (done-clear (firstOf (textOrder f a text)) s s e), λ r. ap (λ (v : Verdict). issuedOf v s) (right-text r))
+      (λ e. text-right (done-clear (firstOf (readTextOrder f a text)) s s e), λ r. ap (λ (v : Verdict). issuedOf v s) (right-text r))
 
 -- ---- "answering as build does"
 
@@ -97,20 +98,20 @@ not-refused s r e = let z : _≡_ {A = ℕ} 0 1 = cc in omega arith
 
 module _ (f a room : ℕ) (fits : recordSize * degree f ≤ room) (text : List ℕ) where
   -- a text that is accepted is answered as build answers
-  pub text-done-as-build : (t : Summary) → textAnswer f a text ≡ issued.Done t → buildAnswer f a room ≡ issued.Done t
-  unfolding textAnswer
+  pub text-done-as-build : (t : Summary) → readTextAnswer f a text ≡ issued.Done t → buildAnswer f a room ≡ issued.Done t
+  unfolding readTextAnswer
   text-done-as-build t e =
       let s : Summary = summaryOf f (degree f) a in
-      let c = done-clear (firstOf (textOrder f a text)) s t e in
+      let c = done-clear (firstOf (readTextOrder f a text)) s t e in
       let done : issued.Done s ≡ issued.Done t = unfold answerOf in rw c at e in
       build-answered f a room (text-right f a text c .0) fits ∙ done
 
   -- what build refuses, with its number and place
-  pub text-refused-as-build : (r : Refusal) → buildAnswer f a room ≡ issued.Refused r → textAnswer f a text ≡ issued.Refused r
-  unfolding textAnswer buildAnswer answerOf
+  pub text-refused-as-build : (r : Refusal) → buildAnswer f a room ≡ issued.Refused r → readTextAnswer f a text ≡ issued.Refused r
+  unfolding readTextAnswer buildAnswer answerOf
   text-refused-as-build r e = go (firstOf (basedOrder f a)) refl
     where
-      go : (v : Verdict) → firstOf (basedOrder f a) ≡ v → textAnswer f a text ≡ issued.Refused r
+      go : (v : Verdict) → firstOf (basedOrder f a) ≡ v → readTextAnswer f a text ≡ issued.Refused r
       go clear c = absurd (not-refused (summaryOf f (degree f) a) r (rw (build-roomy f a room fits, c) at e))
       go (refuse k p) c = rw (part-refused (basedOrder f a) (matchRule text (matricesText f (degree f) a) ∷ []) k p c) (rw (build-roomy f a room fits, c) at e)
 
@@ -151,43 +152,43 @@ module _ (sheet : List ℕ) (room : ℕ) where
   size = textSize (recordCount sheet)
 
   -- "6 for a buffer below n(n(n+1)+1) bytes" comes last, so with room enough writing judges as reading the sheet does
-  pub write-as-read : textSize (recordCount sheet) ≤ room → writeAnswer sheet room ≡ readAnswer sheet
-  unfolding writeAnswer readAnswer
+  pub write-as-read : textSize (recordCount sheet) ≤ room → writeTextAnswer sheet room ≡ readAnswer sheet
+  unfolding writeTextAnswer readAnswer
   write-as-read fits =
       ap (λ (v : Verdict). issuedOf v (summaryIn sheet))
       (last-passes (readOrder sheet) (textRoomRule (recordCount sheet) room) (le-ltb room size fits))
 
   -- "writing has those of reading a sheet", whatever the room
-  pub write-refused-as-read : (r : Refusal) → readAnswer sheet ≡ issued.Refused r → writeAnswer sheet room ≡ issued.Refused r
-  unfolding writeAnswer readAnswer answerOf
+  pub write-refused-as-read : (r : Refusal) → readAnswer sheet ≡ issued.Refused r → writeTextAnswer sheet room ≡ issued.Refused r
+  unfolding writeTextAnswer readAnswer answerOf
   write-refused-as-read r e = go (firstOf (readOrder sheet)) refl
     where
-      go : (v : Verdict) → firstOf (readOrder sheet) ≡ v → writeAnswer sheet room ≡ issued.Refused r
+      go : (v : Verdict) → firstOf (readOrder sheet) ≡ v → writeTextAnswer sheet room ≡ issued.Refused r
       go clear c = absurd (not-refused (summaryIn sheet) r (rw c at e))
       go (refuse k p) c = rw (part-refused (readOrder sheet) (textRoomRule (recordCount sheet) room ∷ []) k p c) (rw c at e)
 
-  -- done exactly where reading the sheet is and there is room, and with the same answer
-  pub write-done-exactly : (t : Summary) → (writeAnswer sheet room ≡ issued.Done t) ↔ ((readAnswer sheet ≡ issued.Done t) × (textSize (recordCount sheet) ≤ room))
-  unfolding writeAnswer
+  -- done exactly if reading the sheet is and there is room, and with the same answer
+  pub write-done-exactly : (t : Summary) → (writeTextAnswer sheet room ≡ issued.Done t) ↔ ((readAnswer sheet ≡ issued.Done t) × (textSize (recordCount sheet) ≤ room))
+  unfolding writeTextAnswer
   write-done-exactly t = (
     λ e.
-        let x = parts-clear (readOrder sheet) (textRoomRule (recordCount sheet) room ∷ []) (done-clear (firstOf (writeOrder sheet room)) (summaryIn sheet) t e) in
+        let x = parts-clear (readOrder sheet) (textRoomRule (recordCount sheet) room ∷ []) (done-clear (firstOf (writeTextOrder sheet room)) (summaryIn sheet) t e) in
         let fits : textSize (recordCount sheet) ≤ room = ltb-false room size (first-clear (textRoomRule (recordCount sheet) room) [] (x .1) .0) in
         (sym (write-as-read fits) ∙ e, fits),
     λ x. write-as-read (x .1) ∙ x .0,
   )
 
-  -- 6 exactly where reading accepts the sheet and the room is less
-  pub write-room-exactly : (writeAnswer sheet room ≡ issued.Refused (refusalAt 6 0))
+  -- 6 exactly if reading accepts the sheet and the room is less
+  pub write-room-exactly : (writeTextAnswer sheet room ≡ issued.Refused (refusalAt 6 0))
       ↔ ((readAnswer sheet ≡ issued.Done (summaryIn sheet)) × (room < textSize (recordCount sheet)))
-  unfolding writeAnswer readAnswer answerOf
+  unfolding writeTextAnswer readAnswer answerOf
   write-room-exactly = (λ e. few e (firstOf (readOrder sheet)) refl, λ x. short (x .1) (done-clear (firstOf (readOrder sheet)) (summaryIn sheet) (summaryIn sheet) (x .0)))
     where
-      short : room < textSize (recordCount sheet) → firstOf (readOrder sheet) ≡ clear → writeAnswer sheet room ≡ issued.Refused (refusalAt 6 0)
+      short : room < textSize (recordCount sheet) → firstOf (readOrder sheet) ≡ clear → writeTextAnswer sheet room ≡ issued.Refused (refusalAt 6 0)
       short h c =
           rw (part-clear (readOrder sheet) (textRoomRule (recordCount sheet) room ∷ []) c, first-applies (textRoomRule (recordCount sheet) room) [] (lt-ltb room (textSize (recordCount sheet)) h)) refl
 
-      few : writeAnswer sheet room ≡ issued.Refused (refusalAt 6 0) → (v : Verdict) → firstOf (readOrder sheet) ≡ v
+      few : writeTextAnswer sheet room ≡ issued.Refused (refusalAt 6 0) → (v : Verdict) → firstOf (readOrder sheet) ≡ v
           → (readAnswer sheet ≡ issued.Done (summaryIn sheet)) × (room < textSize (recordCount sheet))
       few e clear c = (
         rw c refl,

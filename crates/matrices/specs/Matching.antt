@@ -1,8 +1,11 @@
--- Condition 14, by what a comparison found: the lines that the two texts share, and the length of the one that came. A text with all lines
--- of the right one and its length is the right one.
+-- Condition 14, by what a comparison found: the lines that the two texts share, and the length of the one that came.
+--
+--   match-differs                     14 and its place, for any two texts that differ
+--   match-fewer, match-other-length   fewer lines are shared than there are; the length is another
+--   match-text, match-whole           a text with all lines of the right one and its length is the right one
+--
 -- Assumes nothing.
 use mathlib.Core.Path.{_≡_, sym, ap, _∙_}
-use mathlib.Core.Bool.{false}
 use mathlib.Core.List.{List, [], _∷_, _++_, append-nil, append-assoc}
 use Prim.Native.Nat.{ℕ, zero, suc, _≤_, _<_}
 use native.Mathlib.Omega.{arith}
@@ -17,6 +20,11 @@ use Rattle.matrices.specs.Orders.{countOf, common, commonLines, matchRul
 use Rattle.matrices.specs.Blocks.{inOrder-suc, text-length}
 use Rattle.matrices.specs.CommonLines.{common-itself, common-left, lines-all, lines-most}
 use Rattle.matrices.specs.Counting.{text-ends}
+
+-- 14, for any two texts that differ
+pub match-differs : (text right : List ℕ) → (text ≡ right → ⊥) → firstOf (matchRule text right ∷ []) ≡ refuse 14 (commonLines text right)
+match-differs text right u =
+    first-applies (matchRule text right) [] (rw (not-true-false (same text right) (λ e. u (same-equal text right e))))
 
 -- a text of matrices ends a line
 module _ (m : ℕ) (g : ℕ → ℕ → ℕ → ℕ) where
@@ -39,19 +47,13 @@ module _ (n : ℕ) (g : ℕ → ℕ → ℕ → ℕ) (text : List ℕ) where
 
   -- ---- the texts differ
 
-  differs : (text ≡ right → ⊥) → same text right ≡ false
-  differs u = not-true-false (same text right) (λ e. u (same-equal text right e))
-
-  refused : (text ≡ right → ⊥) → (lines : ℕ) → lines ≡ commonLines text right → firstOf (matchRule text right ∷ []) ≡ refuse 14 lines
-  refused u lines e = first-applies (matchRule text right) [] (rw (differs u)) ∙ ap (refuse 14) (sym e)
-
   module _ (lines : ℕ) (e : lines ≡ commonLines text (textBytes n g)) where
     pub match-fewer : lines < lineCount n → firstOf (matchRule text (textBytes n g) ∷ []) ≡ refuse 14 lines
     match-fewer h =
-        refused (λ p. let s : lines ≡ lineCount n = e ∙ ap (λ (l : List ℕ). commonLines l right) p ∙ lines-itself in omega (arith, s, h)) lines e
+        match-differs text right (λ p. let s : lines ≡ lineCount n = e ∙ ap (λ (l : List ℕ). commonLines l right) p ∙ lines-itself in omega (arith, s, h)) ∙ ap (refuse 14) (sym e)
 
     pub match-other-length : (length text ≡ textSize n → ⊥) → firstOf (matchRule text (textBytes n g) ∷ []) ≡ refuse 14 lines
-    match-other-length u = refused (λ p. u (ap (λ (l : List ℕ). length l) p ∙ text-length n g)) lines e
+    match-other-length u = match-differs text right (λ p. u (ap (λ (l : List ℕ). length l) p ∙ text-length n g)) ∙ ap (refuse 14) (sym e)
 
 -- ---- or they are the same
 

@@ -6,7 +6,7 @@
 --   common x y          the longest common beginning of two lists
 --   commonLines x y     the lines ended in it
 --   textRoomRule, matchRule   the conditions: 6, for the buffer of a text; 14
---   writeOrder, textOrder     the orders of the two calls; `matchOrder`: the end of the second
+--   writeTextOrder, readTextOrder     the orders of the two calls; `matchOrder`: the end of the second
 --
 -- Assumes nothing.
 use mathlib.Core.Bool.{cond, not}
@@ -49,13 +49,13 @@ matchRule text right = record { number = 14; place = commonLines text right; app
 -- ---- the orders
 
 -- "writing has those of reading a sheet, then 6"
-abbrev pub writeOrder : (sheet : List ℕ) (room : ℕ) → List Rule
-writeOrder sheet room = readOrder sheet ++ (textRoomRule (recordCount sheet) room ∷ [])
+abbrev pub writeTextOrder : (sheet : List ℕ) (room : ℕ) → List Rule
+writeTextOrder sheet room = readOrder sheet ++ (textRoomRule (recordCount sheet) room ∷ [])
 
 -- 5, then 14: what is decided once the basis is built
 abbrev pub matchOrder : (f n a : ℕ) (text : List ℕ) → List Rule
 matchOrder f n a text = normalRule f n a ∷ matchRule text (matricesText f n a) ∷ []
 
 -- "reading text has 1, 4, 2, 3, 5, then 14"
-abbrev pub textOrder : (f a : ℕ) (text : List ℕ) → List Rule
-textOrder f a text = operandOrder f (a ∷ []) ++ (fieldOrder f ++ matchOrder f (degree f) a text)
+abbrev pub readTextOrder : (f a : ℕ) (text : List ℕ) → List Rule
+readTextOrder f a text = operandOrder f (a ∷ []) ++ (fieldOrder f ++ matchOrder f (degree f) a text)

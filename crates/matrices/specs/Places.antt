@@ -1,41 +1,38 @@
--- "14, text does not match, place the first wrong, missing or extra line counted from 0" (document 02, §4): when it is given, and what its place is
--- against the right text.
+-- "14, text does not match, place the first wrong, missing or extra line counted from 0" (document 02, §4): when it is given, and what its
+-- place is against the right text.
 --
 --   place-beginning, place-empty, place-extra   "missing": the lines that are there; 0 if nothing is; "extra": all n(n+1) lines
---   place-most                                  never more than n(n+1)
+--   matrices-ends, place-most                   the right text has n(n+1) lines, and the place is never more
 --   text-differs, text-differs-exactly          14 exactly for an accepted f, a normal element, and a text that is not theirs
 --   extra-refused, beginning-refused, empty-refused   the answers for a text that goes on, one that stops, and none
 --
--- The longest common beginning is one of both texts, and none is longer: `common-left`, `common-right` and `common-longest` in `CommonLines`.
+-- That the longest common beginning is one of both texts, and none is longer: `CommonLines`.
 -- Assumes nothing.
 use mathlib.Core.Path.{_≡_, refl, sym, ap, _∙_}
 use mathlib.Core.Logic.{_↔_, inl, inr}
-use mathlib.Core.Bool.{false, not}
 use mathlib.Core.List.{List, [], _∷_, _++_, append-nil}
 use Prim.Native.Nat.{ℕ, _+_, _*_, _≤_}
 use native.Mathlib.Nat.{add-zero, mul-le-mul}
 use native.Mathlib.Omega.{arith}
 use borrow.Author.Tests.{eq-eqb}
-use lib.ListN.{length, drop, length-append}
+use lib.ListN.{length, length-append}
 use Rattle.gf2.specs.Poly.{degree}
-use Rattle.gf2.specs.Truth.{not-true-false}
 use Rattle.refusals.specs.Verdicts.{Verdict, clear, refuse, firstOf}
 use Rattle.refusals.specs.Answers.{refusalAt, answerOf}
-use Rattle.refusals.specs.Orders.{first-applies, part-refused, part-clear}
+use Rattle.refusals.specs.Orders.{part-refused, part-clear}
 use Rattle.refusals.specs.Told.{AtZero}
 use Rattle.refusals.specs.Telling.{first-found, every-first}
 use Rattle.refusals.specs.declared.answer.Refusal.{Refusal}
-use Rattle.sheet.specs.Orders.{same}
 use Rattle.sheet.specs.Answers.{issuedOf, summaryOf}
 use Rattle.sheet.specs.Issuing.{based-two}
 use Rattle.sheet.specs.Sheets.{Based}
-use Rattle.sheet.specs.Written.{same-equal}
 use Rattle.sheet.specs.declared.answer.Issued.the-variants as issued
 use Rattle.matrices.specs.Matrices.{matrixEntry, lineEnd, matricesText, matrixSize, textSize, lineCount}
 use Rattle.matrices.specs.Orders.{countOf, common, commonLines, matchRule}
-use Rattle.matrices.specs.Answers.{textAnswer}
-use Rattle.matrices.specs.CommonLines.{count-append, common-nil, common-right}
+use Rattle.matrices.specs.Answers.{readTextAnswer}
+use Rattle.matrices.specs.CommonLines.{count-append, count-common, common-nil}
 use Rattle.matrices.specs.Counting.{text-ends}
+use Rattle.matrices.specs.Matching.{match-differs}
 use Rattle.matrices.specs.Judging.{basedOrder, based-listed, order-based, based-order, text-done-exactly, not-refused}
 use Rattle.matrices.specs.Exact.{matrices-size}
 
@@ -79,12 +76,7 @@ module _ (f n a : ℕ) where
 
   pub place-most : (text : List ℕ) → commonLines text (matricesText f n a) ≤ lineCount n
   unfolding commonLines
-  place-most text =
-      let right : List ℕ = matricesText f n a in
-      let front : List ℕ = common text right in
-      let e : countOf lineEnd right ≡ countOf lineEnd front + countOf lineEnd (drop (length front) right) =
-      ap (countOf lineEnd) (common-right text right) ∙ count-append lineEnd front (drop (length front) right) in
-      omega (arith, e, matrices-ends)
+  place-most text = omega (arith, count-common lineEnd text (matricesText f n a), matrices-ends)
 
 -- ---- the answer
 
@@ -93,12 +85,11 @@ module _ (f a : ℕ) (text : List ℕ) where
   right = matricesText f (degree f) a
 
   pub text-differs : Based f (degree f) a → (text ≡ matricesText f (degree f) a → ⊥)
-      → textAnswer f a text ≡ issued.Refused (refusalAt 14 (countOf lineEnd (common text (matricesText f (degree f) a))))
-  unfolding textAnswer answerOf commonLines
+      → readTextAnswer f a text ≡ issued.Refused (refusalAt 14 (countOf lineEnd (common text (matricesText f (degree f) a))))
+  unfolding readTextAnswer answerOf commonLines
   text-differs b h =
-      let differ : same text right ≡ false = not-true-false (same text right) (λ e. h (same-equal text right e)) in
       ap (λ (v : Verdict). issuedOf v (summaryOf f (degree f) a))
-      (part-clear (basedOrder f a) (matchRule text right ∷ []) (based-order f a b) ∙ first-applies (matchRule text right) [] (ap not differ))
+      (part-clear (basedOrder f a) (matchRule text right ∷ []) (based-order f a b) ∙ match-differs text right h)
 
   -- none of the conditions before has that number
   not-fourteen : (p : ℕ) → firstOf (basedOrder f a) ≡ refuse 14 p → ⊥
@@ -113,12 +104,12 @@ module _ (f a : ℕ) (text : List ℕ) where
       among (inr (inr (inr (inr (inr e)))), z) = e
 
   pub text-differs-exactly : (p : ℕ)
-      → (textAnswer f a text ≡ issued.Refused (refusalAt 14 p))
+      → (readTextAnswer f a text ≡ issued.Refused (refusalAt 14 p))
       ↔ (Based f (degree f) a × (text ≡ matricesText f (degree f) a → ⊥) × (p ≡ countOf lineEnd (common text (matricesText f (degree f) a))))
-  unfolding textAnswer answerOf
+  unfolding readTextAnswer answerOf
   text-differs-exactly p = (λ e. parts e (firstOf (basedOrder f a)) refl, λ x. text-differs (x .0) (x .1) ∙ ap (λ (m : ℕ). issued.Refused (refusalAt 14 m)) (sym (x .2)))
     where
-      parts : textAnswer f a text ≡ issued.Refused (refusalAt 14 p) → (v : Verdict) → firstOf (basedOrder f a) ≡ v
+      parts : readTextAnswer f a text ≡ issued.Refused (refusalAt 14 p) → (v : Verdict) → firstOf (basedOrder f a) ≡ v
           → Based f (degree f) a × (text ≡ matricesText f (degree f) a → ⊥) × (p ≡ countOf lineEnd (common text (matricesText f (degree f) a)))
       parts e clear c =
           let b : Based f (degree f) a = order-based f a c in
@@ -138,12 +129,12 @@ module _ (f a : ℕ) (text : List ℕ) where
 
 module _ (f a : ℕ) (b : Based f (degree f) a) where
   refused-at : (text : List ℕ) (p : ℕ) → (text ≡ matricesText f (degree f) a → ⊥) → commonLines text (matricesText f (degree f) a) ≡ p
-      → textAnswer f a text ≡ issued.Refused (refusalAt 14 p)
+      → readTextAnswer f a text ≡ issued.Refused (refusalAt 14 p)
   unfolding commonLines
   refused-at text p h e = text-differs f a text b h ∙ ap (λ (m : ℕ). issued.Refused (refusalAt 14 m)) e
 
   -- "extra": one byte or more after the right text
-  pub extra-refused : (byte : ℕ) (rest : List ℕ) → textAnswer f a (matricesText f (degree f) a ++ (byte ∷ rest)) ≡ issued.Refused (refusalAt 14 (lineCount (degree f)))
+  pub extra-refused : (byte : ℕ) (rest : List ℕ) → readTextAnswer f a (matricesText f (degree f) a ++ (byte ∷ rest)) ≡ issued.Refused (refusalAt 14 (lineCount (degree f)))
   extra-refused byte rest =
       let right : List ℕ = matricesText f (degree f) a in
       refused-at (right ++ (byte ∷ rest)) (lineCount (degree f))
@@ -151,13 +142,13 @@ module _ (f a : ℕ) (b : Based f (degree f) a) where
       (place-extra f (degree f) a (byte ∷ rest))
 
   -- "missing": the right text but for one byte or more at its end
-  pub beginning-refused : (text : List ℕ) (byte : ℕ) (rest : List ℕ) → matricesText f (degree f) a ≡ text ++ (byte ∷ rest) → textAnswer f a text ≡ issued.Refused (refusalAt 14 (countOf lineEnd text))
+  pub beginning-refused : (text : List ℕ) (byte : ℕ) (rest : List ℕ) → matricesText f (degree f) a ≡ text ++ (byte ∷ rest) → readTextAnswer f a text ≡ issued.Refused (refusalAt 14 (countOf lineEnd text))
   beginning-refused text byte rest e =
       refused-at text (countOf lineEnd text)
       (λ p. let s : length text ≡ length text + length (byte ∷ rest) = ap length (p ∙ e) ∙ length-append text (byte ∷ rest) in omega (arith, s))
       (ap (commonLines text) e ∙ place-beginning text (byte ∷ rest))
 
-  pub empty-refused : textAnswer f a [] ≡ issued.Refused (refusalAt 14 0)
+  pub empty-refused : readTextAnswer f a [] ≡ issued.Refused (refusalAt 14 0)
   unfolding textSize
   empty-refused =
       let n : ℕ = degree f in

@@ -1,5 +1,6 @@
--- Writing the text: digit after digit a line, line after line a matrix, matrix after matrix the text. Each law is what one turn of a loop
--- leaves, or its last step.
+-- Writing the text: digit after digit a line, line after line a matrix, matrix after matrix the text. For each of the three loops: what it
+-- starts with (`..-none`), that it keeps the buffer's length (`digits-length`, `..-kept`), what one turn leaves (`..-next`), and the last
+-- step (`line-done`, `matrix-done`).
 -- Assumes nothing.
 use mathlib.Core.Path.{_≡_, sym, ap, _∙_}
 use mathlib.Core.List.{List, [], _∷_, _++_}

@@ -5,6 +5,8 @@
 --   Twice n table rows      rows begins with the n rows of the table, and once more the same
 --   Copied n i table rows   the same for the first i of them: what a loop has done
 --   turned n rows k i j     entry (i,j) of T_k, from such rows
+--   copied-none, -next      how the loop copies
+--   turned-text             the text from such rows is that of the definitions
 --
 -- Assumes nothing.
 use mathlib.Core.Path.{_≡_, sym, ap, _∙_}

@@ -1,5 +1,5 @@
-// What a line of a matrix is made of. Entry (i,j) of T_k is t((j-i) mod n, (k-i) mod n), so line i takes one bit of the n rows of the
-// table, from row n-i on and round to the first.
+// What a line of a matrix is made of. Entry (i,j) of T_k is t((j-i) mod n, (k-i) mod n), so line i takes one bit of each of the n rows of
+// the table: from row (n-i) mod n on, and after the last row from row 0 on.
 ghost use mathlib.Core.Path.{_≡_};
 ghost use Prim.Native.Nat.{_≤_, _<_};
 ghost use Rattle.gf2.specs.Limit.{limit};

@@ -15,7 +15,7 @@ ghost use Rattle.sheet.specs.Answers.{summaryOf, issuedOf, issuedReport};
 ghost use Rattle.matrices.specs.Matrices.{lineEnd, lineBytes, matrixBytes, textBytes};
 ghost use Rattle.matrices.specs.Orders.{commonLines, matchRule, matchOrder};
 ghost use Rattle.matrices.specs.Turned.{twiceLimit, turned};
-ghost use Rattle.matrices.specs.Answers.{textAnswer, textReport};
+ghost use Rattle.matrices.specs.Answers.{readTextAnswer, readTextReport};
 use super::line::LINE_END;
 use super::line::ROWS_TWICE;
 use super::line::digit;
@@ -33,7 +33,7 @@ use refusals::refused_at;
 use sheet::Issued;
 use sheet::summary_of;
 
-// Whether a line ends at a place of the text: 1 or 0.
+// Whether a line ends at a place of the text, as a count of lines: 1 or 0.
 fn common_end(text: &[u8], at: usize) -> usize
     ensures { λ r. ⌜ r ≡ commonLines (drop at (now (text .entry))) (lineEnd ∷ []) ⌝ }
 {
@@ -43,7 +43,8 @@ fn common_end(text: &[u8], at: usize) -> usize
     if text[at] == LINE_END { 1 } else { 0 }
 }
 
-// Whether a line stands at a place of the text, to its end: 1 or 0. It is one bit of the n rows from a first one on.
+// Whether a line stands at a place of the text, with its end, as a count of lines: 1 or 0. The right line has one bit of each of the n
+// rows from a first one on. A text that is cut before the end of the line has none of it, so it is not compared.
 fn common_line(
     rows: &[u64; ROWS_TWICE],
     first: usize,
@@ -153,8 +154,8 @@ fn read_operand(f: u64, n: u32, element: u64, text: &[u8]) -> Issued
 
 // Whether the text is the one of f and the element.
 pub fn read_matrices(f: u64, element: u64, text: &[u8]) -> Issued
-    ensures answer { λ r. ⌜ r ≡ textAnswer f element (now (text .entry)) ⌝ }
-    ensures report { λ r. ⌜ issuedReport r ≡ textReport f element (now (text .entry)) ⌝ }
+    ensures answer { λ r. ⌜ r ≡ readTextAnswer f element (now (text .entry)) ⌝ }
+    ensures report { λ r. ⌜ issuedReport r ≡ readTextReport f element (now (text .entry)) ⌝ }
 {
     let operand = operand_verdict(f, element);
     match operand {

@@ -9,7 +9,7 @@ ghost use Rattle.sheet.specs.Answers.{issuedReport, readAnswer};
 ghost use Rattle.sheet.specs.declared.answer.Issued.the-variants as issued;
 ghost use Rattle.matrices.specs.Matrices.{lineBytes, matrixBytes, textBytes, matrixSize, textSize};
 ghost use Rattle.matrices.specs.Turned.{twiceLimit, turned};
-ghost use Rattle.matrices.specs.Answers.{writeAnswer, writeReport, writtenText};
+ghost use Rattle.matrices.specs.Answers.{writeTextAnswer, writeTextReport, writtenText};
 use super::line::LINE_END;
 use super::line::ROWS_TWICE;
 use super::line::digit;
@@ -74,8 +74,8 @@ fn put_text(rows: &[u64; ROWS_TWICE], n: usize, text: &mut [u8])
 // The text of a sheet that reading accepts: 6, or its n matrices.
 fn write_accepted(sheet: &[u8], summary: Summary, text: &mut [u8]) -> Issued
     requires { ⌜ readAnswer (now sheet) ≡ issued.Done summary ⌝ }
-    ensures answer { λ r. ⌜ r ≡ writeAnswer (now (sheet .entry)) (length (now (text .entry))) ⌝ }
-    ensures report { λ r. ⌜ issuedReport r ≡ writeReport (now (sheet .entry)) (length (now (text .entry))) ⌝ }
+    ensures answer { λ r. ⌜ r ≡ writeTextAnswer (now (sheet .entry)) (length (now (text .entry))) ⌝ }
+    ensures report { λ r. ⌜ issuedReport r ≡ writeTextReport (now (sheet .entry)) (length (now (text .entry))) ⌝ }
     ensures written { λ r. ⌜ now (text .exit) ≡ writtenText (now (sheet .entry)) (now (text .entry)) ⌝ }
 {
     let n = sheet.len() / RECORD;
@@ -93,8 +93,8 @@ fn write_accepted(sheet: &[u8], summary: Summary, text: &mut [u8]) -> Issued
 
 // The n matrices of a sheet, at the front of the lent text.
 pub fn write_matrices(sheet: &[u8], text: &mut [u8]) -> Issued
-    ensures answer { λ r. ⌜ r ≡ writeAnswer (now (sheet .entry)) (length (now (text .entry))) ⌝ }
-    ensures report { λ r. ⌜ issuedReport r ≡ writeReport (now (sheet .entry)) (length (now (text .entry))) ⌝ }
+    ensures answer { λ r. ⌜ r ≡ writeTextAnswer (now (sheet .entry)) (length (now (text .entry))) ⌝ }
+    ensures report { λ r. ⌜ issuedReport r ≡ writeTextReport (now (sheet .entry)) (length (now (text .entry))) ⌝ }
     ensures written { λ r. ⌜ now (text .exit) ≡ writtenText (now (sheet .entry)) (now (text .entry)) ⌝ }
 {
     match read(sheet) {

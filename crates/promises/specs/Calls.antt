@@ -1,6 +1,6 @@
--- The calls, by their promises. A function is a call if it is public and does one of the things that document 01, "What the desk issues",
--- or a request of document 02 names: whoever holds numbers and memory may call it, so it asks nothing of its arguments (`asks-nothing`). The exports and the functions
--- on words are called from outside too, and stand here as well.
+-- The calls, by their promises. A function is a call if it is public and does one of the things that document 01, "What the desk issues", or
+-- a request of document 02 names: whoever holds numbers and memory may call it, so it asks nothing of its arguments (`asks-nothing`). The
+-- exports and the functions on words are called from outside too, and stand here as well.
 --
 --   Call              a call as the checker itself reads it: lifetimes, parameters, result, what it asks (`Asked`) and its promise (`Post`)
 --   Run c             a run of the call c as its promise permits it

@@ -4,9 +4,9 @@
 --   ..-is           a run returns the call's answer, as a function of its arguments, and leaves in lent memory what the same function says
 --   ..-determined   any two results, and any two final states of lent memory, that the promise permits are equal
 --
--- So whatever `Demand2`, `Demand3`, `Division` and `Matrices` say of an answer they say of the call. In order: check, multiply, square, trace;
--- build, read; to_polynomial, to_normal, times, inverse, quotient; list_to_polynomial, list_to_normal; write_matrices, read_matrices; search;
--- listing. What is refused: `Refused`.
+-- So whatever `Demand2`, `Demand3`, `Division` and `Matrices` say of an answer they say of the call. In order: check, multiply, square,
+-- trace; build, read; to_polynomial, to_normal, times, inverse, quotient; list_to_polynomial, list_to_normal; write_matrices, read_matrices;
+-- search; listing. What is refused: `Refused`.
 -- Assumes nothing.
 use mathlib.Core.Path.{_≡_, sym, _∙_}
 use mathlib.Core.List.{_++_}
@@ -14,7 +14,7 @@ use lib.ListN.{length, drop}
 use denote.Ref.{now}
 use Rattle.field.specs.Answers.{checkAnswer, multiplyAnswer, squareAnswer, traceAnswer}
 use Rattle.sheet.specs.Answers.{buildAnswer, builtBuffer, readAnswer, polynomialAnswer, normalAnswer, timesAnswer, inverseAnswer, quotientAnswer, polynomialListAnswer, polynomialList, normalListAnswer, normalList}
-use Rattle.matrices.specs.Answers.{writeAnswer, writtenText, textAnswer}
+use Rattle.matrices.specs.Answers.{writeTextAnswer, writtenText, readTextAnswer}
 use Rattle.search.specs.Answers.{searchAnswer}
 use Rattle.listing.specs.Text.{listingOf}
 use Rattle.promises.specs.Calls.{Run, Determined, DeterminedWith, check, multiply, square, trace, build, read, to-polynomial, to-normal, times, inverse, quotient, list-to-polynomial, list-to-normal, write-matrices, read-matrices, search, listing}
@@ -111,14 +111,14 @@ list-to-normal-determined κs a x y e e′ p q = (p .0 ∙ sym (q .0), p .1 .1 �
 
 -- ---- the text of the matrices, with the lent text
 
-pub write-matrices-is : (c : Run write-matrices) → (c .result ≡ writeAnswer (now (c .args .0)) (length (now (c .args .1 .0))))
+pub write-matrices-is : (c : Run write-matrices) → (c .result ≡ writeTextAnswer (now (c .args .0)) (length (now (c .args .1 .0))))
     × (now (c .exit .1 .0) ≡ writtenText (now (c .args .0)) (now (c .args .1 .0)))
 write-matrices-is c = (c .kept .0, c .kept .1 .1)
 
 pub write-matrices-determined : DeterminedWith write-matrices (λ κs e. now (e .1 .0))
 write-matrices-determined κs a x y e e′ p q = (p .0 ∙ sym (q .0), p .1 .1 ∙ sym (q .1 .1))
 
-pub read-matrices-is : (c : Run read-matrices) → c .result ≡ textAnswer (c .args .0) (c .args .1 .0) (now (c .args .1 .1 .0))
+pub read-matrices-is : (c : Run read-matrices) → c .result ≡ readTextAnswer (c .args .0) (c .args .1 .0) (now (c .args .1 .1 .0))
 read-matrices-is c = c .kept .0
 
 pub read-matrices-determined : Determined read-matrices

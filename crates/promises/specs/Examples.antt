@@ -8,7 +8,8 @@
 --   quotients         on these, every quotient times its divisor is the dividend, by conversion and the product modulo f
 --   factors-in-order  on tables that no builder writes: which factor stands first
 --   second-kind, both-kinds, cubes   grades at degrees 6 and 18, and why degree 2 has one of its own
---   texts             the texts of 7 and 2, and of 11 and 3, in full, as writing leaves them. Texts that are not right: `Examples` in `matrices`
+--   texts             the texts of 7 and 2, and of 11 and 3, in full, as writing leaves them; a third one, and texts that are not right:
+--                     `Examples` in `matrices`
 --
 -- Assumes nothing.
 use mathlib.Core.Path.{_≡_, refl}

@@ -6,7 +6,7 @@ use lib.ListN.{length}
 use denote.Ref.{now}
 use Rattle.field.specs.Answers.{checkReport, multiplyReport, squareReport, traceReport}
 use Rattle.sheet.specs.Answers.{buildReport, builtBuffer, readReport, polynomialReport, normalReport, timesReport, inverseReport, quotientReport, polynomialListReport, polynomialList, normalListReport, normalList}
-use Rattle.matrices.specs.Answers.{writeReport, writtenText, textReport}
+use Rattle.matrices.specs.Answers.{writeTextReport, writtenText, readTextReport}
 use Rattle.search.specs.Answers.{searchAnswer, searchReport}
 use Rattle.capi.specs.Answers.{deskValue, deskIssued, deskFound, deskWord, foundFlag}
 use Rattle.words.specs.Notation.{numberOf, polynomialOf}
@@ -99,14 +99,14 @@ desk-list-to-normal-determined κs a x y e e′ p q = (p .0 ∙ sym (q .0), p .1
 
 -- ---- the text of the matrices
 
-pub desk-write-matrices-is : (c : Run desk-write-matrices) → (c .result ≡ deskIssued (writeReport (now (c .args .0)) (length (now (c .args .1 .0)))))
+pub desk-write-matrices-is : (c : Run desk-write-matrices) → (c .result ≡ deskIssued (writeTextReport (now (c .args .0)) (length (now (c .args .1 .0)))))
     × (now (c .exit .1 .0) ≡ writtenText (now (c .args .0)) (now (c .args .1 .0)))
 desk-write-matrices-is c = (c .kept .0, c .kept .1)
 
 pub desk-write-matrices-determined : DeterminedWith desk-write-matrices (λ κs e. now (e .1 .0))
 desk-write-matrices-determined κs a x y e e′ p q = (p .0 ∙ sym (q .0), p .1 ∙ sym (q .1))
 
-pub desk-read-matrices-is : (c : Run desk-read-matrices) → c .result ≡ deskIssued (textReport (c .args .0) (c .args .1 .0) (now (c .args .1 .1 .0)))
+pub desk-read-matrices-is : (c : Run desk-read-matrices) → c .result ≡ deskIssued (readTextReport (c .args .0) (c .args .1 .0) (now (c .args .1 .1 .0)))
 desk-read-matrices-is c = c .kept
 
 pub desk-read-matrices-determined : Determined desk-read-matrices

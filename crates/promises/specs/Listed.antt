@@ -1,8 +1,8 @@
 -- The numbers that each call's order has, as the documents list them, and the places that its table has for them ("Refusal numbers",
 -- "Orders."; document 02, §1 and §4): every rule of the order has such a number and such a place.
 --
---   OnShape, OnValue, OnDivision, OnList, OnReading, OnWriting   the numbers and places of the calls on a sheet of m records
---   OnText                                            those of reading a text of the matrices, for f of degree n
+--   OnShape, OnValue, OnDivision, OnList, OnReading, OnWritingText   the numbers and places of the calls on a sheet of m records
+--   OnReadingText                                            those of reading a text of the matrices, for f of degree n
 --   ..-listed, ..-positive                            an order has these, and none of the numbers is 0
 --   field-orders, ..-sequence                         the numbers of an order, one after another, are those that the documents list
 --
@@ -19,7 +19,7 @@ use Rattle.field.specs.Refusals.{elementRule, multiplyOrder, squareOrder, trace
 use Rattle.sheet.specs.Record.{recordCount, conjugateIn, polynomialIn}
 use Rattle.sheet.specs.Orders.{recordRules, differRules, valueRules, listRule, zeroRule, shapeOrder, basisOrder, rebuiltFrom, buildOrder, readOrder, valueOrder, listOrder}
 use Rattle.matrices.specs.Matrices.{matricesText, lineCount}
-use Rattle.matrices.specs.Orders.{textRoomRule, matchRule, writeOrder, textOrder}
+use Rattle.matrices.specs.Orders.{textRoomRule, matchRule, writeTextOrder, readTextOrder}
 use Rattle.matrices.specs.Judging.{basedOrder, based-listed}
 use Rattle.matrices.specs.Places.{place-most}
 use Rattle.search.specs.Answers.{searchOrder}
@@ -69,12 +69,12 @@ abbrev pub OnReading : (m : ℕ) → ℕ → ℕ → Type 0
 OnReading m k p = AtZero (2 ∷ 3 ∷ 5 ∷ []) k p ⊎ (Below (10 ∷ []) m k p ⊎ OnShape m k p)
 
 -- "then 6"
-abbrev pub OnWriting : (m : ℕ) → ℕ → ℕ → Type 0
-OnWriting m k p = AtZero (6 ∷ []) k p ⊎ OnReading m k p
+abbrev pub OnWritingText : (m : ℕ) → ℕ → ℕ → Type 0
+OnWritingText m k p = AtZero (6 ∷ []) k p ⊎ OnReading m k p
 
 -- "1, 4, 2, 3, 5, then 14 .., place the first wrong, missing or extra line": at most the n(n+1) lines are right
-abbrev pub OnText : (n : ℕ) → ℕ → ℕ → Type 0
-OnText n k p = AtZero (1 ∷ 4 ∷ 2 ∷ 3 ∷ 5 ∷ []) k p ⊎ Below (14 ∷ []) (lineCount n + 1) k p
+abbrev pub OnReadingText : (n : ℕ) → ℕ → ℕ → Type 0
+OnReadingText n k p = AtZero (1 ∷ 4 ∷ 2 ∷ 3 ∷ 5 ∷ []) k p ⊎ Below (14 ∷ []) (lineCount n + 1) k p
 
 records-listed : (sheet : List ℕ) (m k i : ℕ) → i + k ≤ m → Every (Below (8 ∷ 9 ∷ []) m) (recordRules sheet i k)
 unfolding recordRules
@@ -130,17 +130,17 @@ read-listed sheet =
     (every-also (AtZero (2 ∷ 3 ∷ 5 ∷ [])) (OnReading m) (λ k p h. inl h) basis (listed-at-zero basis refl))
     (every-also (Below (10 ∷ []) m) (OnReading m) (λ k p h. inr (inl h)) differ (differ-listed sheet (rebuiltFrom sheet) m m 0 (omega arith))))
 
-pub write-listed : (sheet : List ℕ) (room : ℕ) → Every (OnWriting (recordCount sheet)) (writeOrder sheet room)
+pub write-listed : (sheet : List ℕ) (room : ℕ) → Every (OnWritingText (recordCount sheet)) (writeTextOrder sheet room)
 write-listed sheet room =
     let m : ℕ = recordCount sheet in
-    every-append (OnWriting m) (readOrder sheet) (textRoomRule m room ∷ [])
-    (every-also (OnReading m) (OnWriting m) (λ k p h. inr h) (readOrder sheet) (read-listed sheet)) (inl (inl refl, refl), tt)
+    every-append (OnWritingText m) (readOrder sheet) (textRoomRule m room ∷ [])
+    (every-also (OnReading m) (OnWritingText m) (λ k p h. inr h) (readOrder sheet) (read-listed sheet)) (inl (inl refl, refl), tt)
 
-pub text-listed : (f a : ℕ) (text : List ℕ) → Every (OnText (degree f)) (textOrder f a text)
+pub text-listed : (f a : ℕ) (text : List ℕ) → Every (OnReadingText (degree f)) (readTextOrder f a text)
 text-listed f a text =
     let n : ℕ = degree f in
-    every-append (OnText n) (basedOrder f a) (matchRule text (matricesText f n a) ∷ [])
-    (every-also (AtZero (1 ∷ 4 ∷ 2 ∷ 3 ∷ 5 ∷ [])) (OnText n) (λ k p h. inl h) (basedOrder f a) (based-listed f a))
+    every-append (OnReadingText n) (basedOrder f a) (matchRule text (matricesText f n a) ∷ [])
+    (every-also (AtZero (1 ∷ 4 ∷ 2 ∷ 3 ∷ 5 ∷ [])) (OnReadingText n) (λ k p h. inl h) (basedOrder f a) (based-listed f a))
     (inr (inl refl, omega (arith, place-most f n a text)), tt)
 
 -- ---- no number is 0
@@ -167,11 +167,11 @@ read-positive m k p (inl h) = at-zero-positive (2 ∷ 3 ∷ 5 ∷ []) refl k p h
 read-positive m k p (inr (inl h)) = below-positive (10 ∷ []) m refl k p h
 read-positive m k p (inr (inr h)) = shape-positive m k p h
 
-pub write-positive : (m k p : ℕ) → OnWriting m k p → 0 < k
+pub write-positive : (m k p : ℕ) → OnWritingText m k p → 0 < k
 write-positive m k p (inl h) = at-zero-positive (6 ∷ []) refl k p h
 write-positive m k p (inr h) = read-positive m k p h
 
-pub text-positive : (n k p : ℕ) → OnText n k p → 0 < k
+pub text-positive : (n k p : ℕ) → OnReadingText n k p → 0 < k
 text-positive n k p (inl h) = at-zero-positive (1 ∷ 4 ∷ 2 ∷ 3 ∷ 5 ∷ []) refl k p h
 text-positive n k p (inr h) = below-positive (14 ∷ []) (lineCount n + 1) refl k p h
 
@@ -236,8 +236,8 @@ read-sequence sheet =
     ∙ ap (λ (l : List ℕ). 7 ∷ (eightNine (recordCount sheet) ++ (2 ∷ 3 ∷ 5 ∷ l))) (tens sheet (rebuiltFrom sheet) 0 (recordCount sheet))
 
 -- "writing has those of reading a sheet, then 6"; "reading text has 1, 4, 2, 3, 5, then 14" (document 02, §4)
-pub write-sequence : (sheet : List ℕ) (room : ℕ) → numbersOf (writeOrder sheet room) ≡ numbersOf (readOrder sheet) ++ (6 ∷ [])
+pub write-sequence : (sheet : List ℕ) (room : ℕ) → numbersOf (writeTextOrder sheet room) ≡ numbersOf (readOrder sheet) ++ (6 ∷ [])
 write-sequence sheet room = numbers-append (readOrder sheet) (textRoomRule (recordCount sheet) room ∷ [])
 
-pub text-sequence : (f a : ℕ) (text : List ℕ) → numbersOf (textOrder f a text) ≡ 1 ∷ 4 ∷ 2 ∷ 3 ∷ 5 ∷ 14 ∷ []
+pub text-sequence : (f a : ℕ) (text : List ℕ) → numbersOf (readTextOrder f a text) ≡ 1 ∷ 4 ∷ 2 ∷ 3 ∷ 5 ∷ 14 ∷ []
 text-sequence f a text = refl

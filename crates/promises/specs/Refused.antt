@@ -27,8 +27,8 @@ use Rattle.sheet.specs.Answered.{issued-report}
 use Rattle.sheet.specs.declared.answer.Summary.{Summary}
 use Rattle.sheet.specs.declared.answer.Issued.{Issued}
 use Rattle.sheet.specs.declared.answer.Issued.the-variants as issued
-use Rattle.matrices.specs.Orders.{writeOrder, textOrder}
-use Rattle.matrices.specs.Answers.{writeAnswer, textAnswer}
+use Rattle.matrices.specs.Orders.{writeTextOrder, readTextOrder}
+use Rattle.matrices.specs.Answers.{writeTextAnswer, readTextAnswer}
 use Rattle.matrices.specs.Exact.{written-kept}
 use Rattle.search.specs.Answers.{searchOrder, searchOf, searchAnswer, caseReport, refusedReport}
 use Rattle.search.specs.Search.{ranged, Answered, nothing, found}
@@ -38,7 +38,7 @@ use Rattle.search.specs.declared.answer.Search.the-variants as searched
 use Rattle.promises.specs.Calls as calls
 use Rattle.promises.specs.Calls.{Run}
 use Rattle.promises.specs.Demand1.{check-is, multiply-is, square-is, trace-is, build-is, read-is, to-polynomial-is, to-normal-is, times-is, inverse-is, quotient-is, list-to-polynomial-is, list-to-normal-is, write-matrices-is, read-matrices-is, search-is}
-use Rattle.promises.specs.Listed.{OnValue, OnDivision, OnList, OnReading, OnWriting, OnText, multiply-listed, square-listed, trace-listed, check-listed, build-listed, search-listed, value-listed, value-positive, division-listed, division-positive, list-listed, list-positive, read-listed, read-positive, write-listed, write-positive, text-listed, text-positive}
+use Rattle.promises.specs.Listed.{OnValue, OnDivision, OnList, OnReading, OnWritingText, OnReadingText, multiply-listed, square-listed, trace-listed, check-listed, build-listed, search-listed, value-listed, value-positive, division-listed, division-positive, list-listed, list-positive, read-listed, read-positive, write-listed, write-positive, text-listed, text-positive}
 use Rattle.refusals.specs.Told.{AtZero, Every, Told, ValueTold, CheckedTold, numberOf, placeOf}
 use Rattle.refusals.specs.Telling.{nonzero, placed-zero, at-zero-positive, told, value-told, checked-told}
 
@@ -173,13 +173,13 @@ list-to-normal-told c =
 
 -- ---- the text of the matrices
 
-pub write-matrices-told : (c : Run calls.write-matrices) → IssuedTold (writeOrder (now (c .args .0)) (length (now (c .args .1 .0)))) (OnWriting (recordCount (now (c .args .0)))) (c .result)
-unfolding writeAnswer
+pub write-matrices-told : (c : Run calls.write-matrices) → IssuedTold (writeTextOrder (now (c .args .0)) (length (now (c .args .1 .0)))) (OnWritingText (recordCount (now (c .args .0)))) (c .result)
+unfolding writeTextAnswer
 write-matrices-told c =
     rw (write-matrices-is c .0) (issued-told _ _ (write-listed (now (c .args .0)) (length (now (c .args .1 .0)))) (write-positive (recordCount (now (c .args .0)))) _)
 
-pub read-matrices-told : (c : Run calls.read-matrices) → IssuedTold (textOrder (c .args .0) (c .args .1 .0) (now (c .args .1 .1 .0))) (OnText (degree (c .args .0))) (c .result)
-unfolding textAnswer
+pub read-matrices-told : (c : Run calls.read-matrices) → IssuedTold (readTextOrder (c .args .0) (c .args .1 .0) (now (c .args .1 .1 .0))) (OnReadingText (degree (c .args .0))) (c .result)
+unfolding readTextAnswer
 read-matrices-told c =
     rw (read-matrices-is c) (issued-told _ _ (text-listed (c .args .0) (c .args .1 .0) (now (c .args .1 .1 .0))) (text-positive (degree (c .args .0))) _)
 

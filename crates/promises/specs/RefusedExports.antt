@@ -22,8 +22,8 @@ use Rattle.sheet.specs.Answers.{issueOf, buildAnswer, buildReport, builtBuffer,
 use Rattle.sheet.specs.declared.answer.Summary.{Summary}
 use Rattle.sheet.specs.declared.answer.Issued.{Issued}
 use Rattle.sheet.specs.declared.answer.Issued.the-variants as issued
-use Rattle.matrices.specs.Orders.{writeOrder, textOrder}
-use Rattle.matrices.specs.Answers.{writeAnswer, writeReport, writtenText, textAnswer, textReport}
+use Rattle.matrices.specs.Orders.{writeTextOrder, readTextOrder}
+use Rattle.matrices.specs.Answers.{writeTextAnswer, writeTextReport, writtenText, readTextAnswer, readTextReport}
 use Rattle.search.specs.Answers.{searchOrder, searchOf, searchAnswer, searchReport, refusedReport}
 use Rattle.search.specs.Answers as answers
 use Rattle.search.specs.Search.{ranged, Answered}
@@ -36,7 +36,7 @@ use Rattle.capi.specs.declared.answer.DeskFound.{DeskFound}
 use Rattle.promises.specs.Calls as calls
 use Rattle.promises.specs.Calls.{Run}
 use Rattle.promises.specs.Exports.{desk-check-is, desk-multiply-is, desk-square-is, desk-trace-is, desk-build-is, desk-read-is, desk-to-polynomial-is, desk-to-normal-is, desk-times-is, desk-inverse-is, desk-quotient-is, desk-list-to-polynomial-is, desk-list-to-normal-is, desk-write-matrices-is, desk-read-matrices-is, desk-search-is}
-use Rattle.promises.specs.Listed.{OnValue, OnDivision, OnList, OnReading, OnWriting, OnText, multiply-listed, square-listed, trace-listed, check-listed, build-listed, search-listed, value-listed, value-positive, division-listed, division-positive, list-listed, list-positive, read-listed, read-positive, write-listed, write-positive, text-listed, text-positive}
+use Rattle.promises.specs.Listed.{OnValue, OnDivision, OnList, OnReading, OnWritingText, OnReadingText, multiply-listed, square-listed, trace-listed, check-listed, build-listed, search-listed, value-listed, value-positive, division-listed, division-positive, list-listed, list-positive, read-listed, read-positive, write-listed, write-positive, text-listed, text-positive}
 use Rattle.promises.specs.Refused.{issue-told, done-searched, answered-number}
 use Rattle.refusals.specs.Told.{AtZero, Every, Told, numberOf}
 use Rattle.refusals.specs.Telling.{nonzero, placed-zero, at-zero-positive, told, report-told, done-value, done-checked}
@@ -152,13 +152,13 @@ desk-list-to-normal-told c =
 
 -- ---- the text of the matrices
 
-pub desk-write-matrices-told : (c : Run calls.desk-write-matrices) → DeskIssuedTold (writeOrder (now (c .args .0)) (length (now (c .args .1 .0)))) (OnWriting (recordCount (now (c .args .0)))) (writeAnswer (now (c .args .0)) (length (now (c .args .1 .0)))) (c .result)
-unfolding writeAnswer writeReport
+pub desk-write-matrices-told : (c : Run calls.desk-write-matrices) → DeskIssuedTold (writeTextOrder (now (c .args .0)) (length (now (c .args .1 .0)))) (OnWritingText (recordCount (now (c .args .0)))) (writeTextAnswer (now (c .args .0)) (length (now (c .args .1 .0)))) (c .result)
+unfolding writeTextAnswer writeTextReport
 desk-write-matrices-told c =
     rw (desk-write-matrices-is c .0) (issue-told _ _ (write-listed (now (c .args .0)) (length (now (c .args .1 .0)))) (write-positive (recordCount (now (c .args .0)))) _)
 
-pub desk-read-matrices-told : (c : Run calls.desk-read-matrices) → DeskIssuedTold (textOrder (c .args .0) (c .args .1 .0) (now (c .args .1 .1 .0))) (OnText (degree (c .args .0))) (textAnswer (c .args .0) (c .args .1 .0) (now (c .args .1 .1 .0))) (c .result)
-unfolding textAnswer textReport
+pub desk-read-matrices-told : (c : Run calls.desk-read-matrices) → DeskIssuedTold (readTextOrder (c .args .0) (c .args .1 .0) (now (c .args .1 .1 .0))) (OnReadingText (degree (c .args .0))) (readTextAnswer (c .args .0) (c .args .1 .0) (now (c .args .1 .1 .0))) (c .result)
+unfolding readTextAnswer readTextReport
 desk-read-matrices-told c =
     rw (desk-read-matrices-is c) (issue-told _ _ (text-listed (c .args .0) (c .args .1 .0) (now (c .args .1 .1 .0))) (text-positive (degree (c .args .0))) _)
 
@@ -195,5 +195,5 @@ unfolding normalListReport normalList
 desk-list-to-normal-unchanged c h = desk-list-to-normal-is c .1 ∙ list-unchanged _ _ (now (c .args .1 .1 .0)) (rw (desk-list-to-normal-is c .0) at h)
 
 pub desk-write-matrices-unchanged : (c : Run calls.desk-write-matrices) → 0 < c .result .number → now (c .exit .1 .0) ≡ now (c .args .1 .0)
-unfolding writeReport writtenText
+unfolding writeTextReport writtenText
 desk-write-matrices-unchanged c h = desk-write-matrices-is c .1 ∙ built-unchanged _ _ _ (now (c .args .1 .0)) (rw (desk-write-matrices-is c .0) at h)
