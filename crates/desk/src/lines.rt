@@ -7,7 +7,7 @@ use streams::cannot;
 // As much of the input as is read at once.
 pub(crate) const CHUNK: usize = 65536;
 
-const NEWLINE: u8 = 10;
+pub(crate) const NEWLINE: u8 = 10;
 
 // Where the reader stands: the place of the next byte in the chunk, the bytes that the chunk has, and the number of the last line read.
 pub(crate) struct Cursor {

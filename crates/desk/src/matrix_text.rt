@@ -3,6 +3,7 @@ ghost use mathlib.Core.Path.{_≡_};
 ghost use Prim.Native.Nat.{_+_, _*_, _≤_};
 ghost use lib.ListN.{length};
 ghost use Rattle.gf2.specs.Limit.{limit};
+ghost use Rattle.matrices.specs.Matrices.{textSize};
 use super::complaints::wrong_count;
 use super::input::polynomial_at;
 use super::input::read_input;
@@ -37,7 +38,7 @@ fn text_space() -> [u8; TEXT_ROOM]
 
 // The bytes of the text for degree n. No sheet has a larger degree than the limit.
 fn size_for(n: usize) -> usize
-    ensures { λ r. ⌜ r ≤ limit * (limit * (limit + 1) + 1) ⌝ }
+    ensures { λ r. ⌜ (n ≤ limit → r ≡ textSize n) × (r ≤ limit * (limit * (limit + 1) + 1)) ⌝ }
 {
     if n > LIMIT {
         return 0;

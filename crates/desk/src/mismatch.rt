@@ -3,6 +3,7 @@
 ghost use Prim.Native.Nat.{_≤_};
 use super::complaints::say;
 use super::complaints::say_number;
+use super::lines::NEWLINE;
 use super::options::WORDS_ROOM;
 use super::refusing::refuse_words;
 use super::refusing::refused_if;
@@ -13,8 +14,6 @@ use streams::Ending;
 
 // The refusal of a text that does not match.
 const NO_MATCH: u8 = 14;
-
-const NEWLINE: u8 = 10;
 
 // The lines that a byte ends: 1 or 0.
 fn ended_by(byte: u8) -> usize

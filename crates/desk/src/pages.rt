@@ -40,7 +40,7 @@ fn put_matrix_commands(output: Output) -> bool {
         b"desk matrices SHEET             all matrices of a sheet as text; without SHEET, standard input\n",
     )
         && output.put(
-            b"desk read-matrices F ELEMENT    whether the text on standard input has all matrices of ELEMENT:\n                                degree, F, element, complexity and grade\n",
+            b"desk read-matrices F ELEMENT    whether the text on standard input is that of F and ELEMENT:\n                                degree, F, element, complexity and grade\n",
         )
 }
 

@@ -3,13 +3,12 @@ ghost use Prim.Native.Nat.{_+_, _*_, _≤_};
 ghost use mathlib.Core.Path.{_≡_};
 ghost use lib.ListN.{length};
 ghost use Rattle.io.specs.Counts.{Counts};
+use super::lines::NEWLINE;
 use super::output::Output;
 use listing::NUMBER_ROOM;
 use listing::put_bytes;
 use listing::put_number;
 use sheet::LIST_LIMIT;
-
-const NEWLINE: u8 = 10;
 
 // Room for the lines of the longest list.
 const TEXT_ROOM: usize = LIST_LIMIT * NUMBER_ROOM;

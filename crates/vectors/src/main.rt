@@ -9,7 +9,7 @@
 //   checks         polynomials that the check takes or refuses
 //   searches       the searches at f = 19
 //   grades         the grades of the best, and both kinds at degree 18
-//   texts          the matrices of two sheets as text, and the ones of the best
+//   texts          the matrices of three sheets as text, and the ones of the best
 //   records        the bytes of a record, and sheets that lost one
 mod checks;
 mod complexities;

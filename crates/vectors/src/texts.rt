@@ -1,5 +1,5 @@
-// The full set of matrices (document 02, §4): the whole text of two sheets, read back, and the ones in the texts of source document 000's best
-// normal bases for degrees 2 to 7. Its table D.5 names a basis by a minimal polynomial, in whose field x generates that basis, and counts
+// The full set of matrices (document 02, §4): the whole text of three sheets, read back, and the ones in the texts of source document 000's
+// best normal bases for degrees 2 to 7. Its table D.5 names a basis by a minimal polynomial, in whose field x generates that basis, and counts
 // the ones of all n matrices: 6, 15, 28, 45, 66, 133.
 ghost use Prim.Native.Nat.{_≤_};
 use super::printing::say;
@@ -13,12 +13,14 @@ use matrices::write_matrices;
 use sheet::Issued;
 use sheet::RECORD;
 
-// The bytes of a text of degree 2 and of degree 3, and of the latter without its last line, which is empty.
-const TWO: usize = 2 * (2 * 3 + 1);
+// The bytes of a text of degree 2, 3 and 4, and of the second without its last line, which is empty.
+const SIZE_TWO: usize = 2 * (2 * 3 + 1);
 
-const THREE: usize = 3 * (3 * 4 + 1);
+const SIZE_THREE: usize = 3 * (3 * 4 + 1);
 
-const SHORTER: usize = THREE - 1;
+const SIZE_FOUR: usize = 4 * (4 * 5 + 1);
+
+const SHORTER: usize = SIZE_THREE - 1;
 
 // The minimal polynomials of table D.5, from degree 2 to the last one here.
 const LAST: usize = 7;
@@ -55,16 +57,24 @@ fn print_text(f: u64, element: u64, sheet: &[u8], text: &mut [u8]) -> bool {
 fn print_two() -> bool {
     let mut sheet = [0u8; 2 * RECORD];
     sheet::build(7, 2, &mut sheet);
-    let mut text = [0u8; TWO];
+    let mut text = [0u8; SIZE_TWO];
     print_text(7, 2, &sheet, &mut text)
 }
 
 fn print_three() -> bool {
     let mut sheet = [0u8; 3 * RECORD];
     sheet::build(11, 3, &mut sheet);
-    let mut text = [0u8; THREE];
+    let mut text = [0u8; SIZE_THREE];
     print_text(11, 3, &sheet, &mut text)
         && print_reading(11, 3, b" without the last line: ", &text[..SHORTER])
+}
+
+// Here the table is not symmetric, so that a text with its indices in another order differs.
+fn print_four() -> bool {
+    let mut sheet = [0u8; 4 * RECORD];
+    sheet::build(19, 8, &mut sheet);
+    let mut text = [0u8; SIZE_FOUR];
+    print_text(19, 8, &sheet, &mut text)
 }
 
 // 1 for the digit 1, else 0.
@@ -120,6 +130,7 @@ fn print_bases() -> bool {
 pub(crate) fn run() -> bool {
     print_two()
         && print_three()
+        && print_four()
         && say(b"ones in the matrices of the best bases, source document 000: degree, ones\n")
         && print_bases()
 }
