@@ -2,9 +2,9 @@
 //! implementation, in one program.
 //!
 //! `desk calls` times the calls on numbers, sheets, lists and texts; `desk
-//! search 20` the searches, and gives each about so many seconds. Every line printed is a
-//! measurement or an answer; answers of one name are the same for every program
-//! that `bench/run` starts:
+//! search 20` the searches, and gives each about so many seconds. Every line
+//! printed is a measurement or an answer; answers of one name are the same for
+//! every program that `bench/run` starts:
 //!
 //! ```text
 //! time NAME PROGRAM NANOSECONDS           of one call

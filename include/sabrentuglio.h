@@ -271,11 +271,12 @@ desk_issued desk_write_matrices(const uint8_t *sheet, size_t length, uint8_t *te
 /*
  * Returns degree, complexity and grade of the basis of f and the element, if the text is that of
  * the basis. It is done exactly for the text that desk_write_matrices writes on the sheet of f and
- * the element, at its own length. Any bytes of any length are a legal text. Writes nothing.
+ * the element, with a text_length of n(n(n+1)+1). Any bytes of any length are a legal text. Writes
+ * nothing.
  * Refusals in order: 1, 4, 2, 3, 5, 14. The place of 14 is the number of bytes 10 in the longest
- * common beginning of the text and the right one. So a line without its byte 10 is a wrong line, a
- * right text that ends after line 4 misses line 5, and anything after the whole right text is an
- * extra line, line n(n+1).
+ * common beginning of the text and the right one. So a line without its byte 10 is a wrong line. A
+ * text that is right to the end of line 4 and stops there misses line 5; lines count from 0.
+ * Anything after the whole right text is an extra line, line n(n+1).
  */
 desk_issued desk_read_matrices(uint64_t f, uint64_t element, const uint8_t *text, size_t text_length);
 

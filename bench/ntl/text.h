@@ -20,7 +20,7 @@ class Text {
   public:
     explicit Text(long degree) : n(degree), size(n * (n + 1) + 1), text(n * size, '\n'), basis(n), rows(n) { products.SetDims(n, n); }
 
-    // Writes the text of an element, if it is normal. The complexity, or 0 where it is not.
+    // Writes the text of an element, if it is normal. The complexity, or 0 if it is not.
     word write(word normal) {
         const std::vector<NTL::GF2E> conjugates = conjugates_of(normal);
         for (long i = 0; i < n; i++) row(basis.conjugates, i) = word_of(conjugates[i]);

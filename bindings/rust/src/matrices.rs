@@ -47,7 +47,7 @@ pub fn write_matrices(sheet: &[u8], text: &mut [u8]) -> Result<Summary, Refusal>
     raw::write_matrices(sheet, text).into()
 }
 
-/// Reads the text of all matrices for f and an element: done exactly where
+/// Reads the text of all matrices for f and an element: done exactly if
 /// [`write_matrices`] writes these bytes on the sheet of f and the element. Any
 /// bytes of any length are a legal text.
 ///
