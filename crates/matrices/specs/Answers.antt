@@ -1,7 +1,7 @@
 -- What the calls on the text of the matrices answer: the case of the enum, the documents' numbers for each case, and the final state of the
 -- lent buffer. "Answering as build does" is said of reading; writing answers so too. Definitions alone.
 --
---   textIn sheet             the text of the polynomial and the element that a sheet names
+--   textIn sheet                 the text of the polynomial and the element that a sheet names
 --   writeTextAnswer, ..Report    writing, as functions of its inputs; `writtenText`: what the lent buffer holds at the end
 --   readTextAnswer, ..Report     reading
 --

@@ -2,11 +2,11 @@
 -- n(n(n+1)+1) bytes; reading text has 1, 4, 2, 3, 5, then 14, text does not match, place the first wrong, missing or extra line counted from
 -- 0". Definitions alone.
 --
---   countOf b bytes     how often a byte stands in a list
---   common x y          the longest common beginning of two lists
---   commonLines x y     the lines ended in it
---   textRoomRule, matchRule   the conditions: 6, for the buffer of a text; 14
---   writeTextOrder, readTextOrder     the orders of the two calls; `matchOrder`: the end of the second
+--   countOf b bytes                  how often a byte stands in a list
+--   common x y                       the longest common beginning of two lists
+--   commonLines x y                  the lines ended in it
+--   textRoomRule, matchRule          the conditions: 6, for the buffer of a text; 14
+--   writeTextOrder, readTextOrder    the orders of the two calls; `matchOrder`: the end of the second
 --
 -- Assumes nothing.
 use mathlib.Core.Bool.{cond, not}

@@ -2,10 +2,11 @@
 -- (j-i) mod n is found without turning round.
 --
 --   twiceLimit              room for the rows of the longest table, twice over
---   Twice n table rows      rows begins with the n rows of the table, and once more the same
+--   Twice n table rows      rows has the n rows of the table, once more the same, and zeros
 --   Copied n i table rows   the same for the first i of them: what a loop has done
 --   turned n rows k i j     entry (i,j) of T_k, from such rows
 --   copied-none, -next      how the loop copies
+--   twice-unique            no other rows are so
 --   turned-text             the text from such rows is that of the definitions
 --
 -- Assumes nothing.
@@ -15,8 +16,8 @@ use mathlib.Core.List.{List}
 use Prim.Native.Nat.{ℕ, _+_, _-_, _*_, _%_, _≤_, _<_}
 use native.Mathlib.Nat.{mod-eq-of-lt, add-mod-right}
 use native.Mathlib.Omega.{arith}
-use lib.ListN.{length, getD, set, replicate, length-set, length-replicate}
-use lib.Seq.{getD-set-same, getD-set-other}
+use lib.ListN.{length, getD, set, replicate, length-set, length-replicate, getD-replicate}
+use lib.Seq.{getD-set-same, getD-set-other, ext-getD}
 use Rattle.gf2.specs.Limit.{limit}
 use Rattle.gf2.specs.Numbers.{order}
 use Rattle.rows.specs.Bits.{bitOf}
@@ -35,6 +36,7 @@ pub record Copied (n i : ℕ) (table rows : List ℕ) : Type 0 where
   pub size : length rows ≡ twiceLimit
   pub first : (j : ℕ) → j < i → getD rows j 0 ≡ getD table j 0
   pub again : (j : ℕ) → j < i → getD rows (n + j) 0 ≡ getD table j 0
+  pub rest : (j : ℕ) → n + i ≤ j → j < twiceLimit → getD rows j 0 ≡ 0
 
 abbrev pub Twice : (n : ℕ) (table rows : List ℕ) → Type 0
 Twice n table rows = Copied n n table rows
@@ -46,7 +48,7 @@ turned n rows k i j = entry rows (j + (n - i)) ((k + (n - i)) % n)
 
 pub copied-none : (n : ℕ) (table : List ℕ) → Copied n 0 table (replicate twiceLimit 0)
 copied-none n table =
-    record { size = length-replicate {A = ℕ} twiceLimit 0; first = λ j h. absurd (omega arith); again = λ j h. absurd (omega arith) }
+    record { size = length-replicate {A = ℕ} twiceLimit 0; first = λ j h. absurd (omega arith); again = λ j h. absurd (omega arith); rest = λ j h l. getD-replicate twiceLimit j 0 0 l }
 
 -- one row more, in both places
 pub copied-next : (n i : ℕ) (table rows : List ℕ) → n ≤ limit → i < n → Copied n i table rows
@@ -69,7 +71,26 @@ copied-next n i table rows most h s =
           getD-set-other once (n + i) (n + j) x 0 (λ p. omega arith) ∙ getD-set-other rows i (n + j) x 0 (λ p. omega arith) ∙ s .again j u)
           (λ (u : i ≤ j). let p : j ≡ i = omega arith in rw p (getD-set-same once (n + i) x 0 (omega (arith, size))))
           (order j i);
+      rest = λ j l t.
+          getD-set-other once (n + i) j x 0 (λ p. omega arith) ∙ getD-set-other rows i j x 0 (λ p. omega arith) ∙ s .rest j (omega arith) t;
     }
+
+-- so what the loop ends with is determined
+pub twice-unique : (n : ℕ) (table rows other : List ℕ) → Twice n table rows → Twice n table other → rows ≡ other
+twice-unique n table rows other s t =
+    ext-getD 0 rows other (s .size ∙ sym (t .size))
+    (λ j h.
+    ⊎-elim
+    (λ (u : j < n). s .first j u ∙ sym (t .first j u))
+    (λ (u : n ≤ j).
+    ⊎-elim
+    (λ (v : j < n + n).
+    let e : n + (j - n) ≡ j = omega arith in
+    let l : j - n < n = omega arith in
+    ap (λ (x : ℕ). getD rows x 0) (sym e) ∙ s .again (j - n) l ∙ sym (t .again (j - n) l) ∙ ap (λ (x : ℕ). getD other x 0) e)
+    (λ (v : n + n ≤ j). let l : j < twiceLimit = omega (arith, h, s .size) in s .rest j v l ∙ sym (t .rest j v l))
+    (order j (n + n)))
+    (order j n))
 
 -- ---- the text from the table
 

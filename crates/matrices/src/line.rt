@@ -28,7 +28,7 @@ pub fn digit(row: u64, bit: usize) -> u8
     ZERO + ((row >> bit) % 2) as u8
 }
 
-// The n rows of a table and once more the same, so that every line finds its rows one after another.
+// The n rows of a table, once more the same, and zeros, so that every line finds its rows one after another.
 pub fn rows_twice(table: &[u64; LIMIT], n: usize) -> [u64; ROWS_TWICE]
     requires { ⌜ n ≤ limit ⌝ }
     ensures { λ r. ⌜ Twice n (now (table .entry)) r ⌝ }
