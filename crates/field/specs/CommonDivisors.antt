@@ -36,7 +36,7 @@ pub record Common (f n i h : ℕ) : Type 0 where
 -- ---- modulo f, and then modulo a divisor p of f
 
 module _ (f n p m : ℕ) (deg : Degree p m) (v : Divides p f) where
-  rem-through : (c : ℕ) → rem p m (rem f n c) ≡ rem p m c
+  pub rem-through : (c : ℕ) → rem p m (rem f n c) ≡ rem p m c
   rem-through c =
       let q = rem-quotient f n c in
       sym (ap (rem p m) (q .1) ∙ rem-⊕ p m deg (product (q .0) f) (rem f n c)
@@ -46,7 +46,7 @@ module _ (f n p m : ℕ) (deg : Degree p m) (v : Divides p f) where
   unfolding mulMod
   mulMod-through a b = rem-through (product a b) ∙ sym (rem-product-l p m deg a (rem p m b) ∙ rem-product-r p m deg a b)
 
-  squared-through : (k a : ℕ) → rem p m (squared f n k a) ≡ squared p m k (rem p m a)
+  pub squared-through : (k a : ℕ) → rem p m (squared f n k a) ≡ squared p m k (rem p m a)
   unfolding squared
   squared-through zero a = refl
   squared-through (suc k) a = squared-through k (mulMod f n a a) ∙ ap (squared p m k) (mulMod-through a a)

@@ -26,7 +26,7 @@ pub record Proper (f n d : ℕ) : Type 0 where
   pub below : d < 2 ^ n
   pub divides : Divides d f
 
-proper-test : (f d : ℕ) → (leb 2 d && divides d f) ≡ true → (2 ≤ d) × Divides d f
+pub proper-test : (f d : ℕ) → (leb 2 d && divides d f) ≡ true → (2 ≤ d) × Divides d f
 proper-test f d e =
     let s = and-parts (leb 2 d) (divides d f) e in
     let two : 2 ≤ d = leb-true 2 d (s .0) in

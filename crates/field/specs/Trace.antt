@@ -14,7 +14,7 @@ use Rattle.field.specs.Frobenius.{squared-⊕, squared-lt, squared-next,
 use Rattle.field.specs.Division.{no-zero-divisors}
 
 module _ (f n : ℕ) (deg : Degree f n) where
-  traceTo-⊕ : (k a b : ℕ) → traceTo f n k (a ⊕ b) ≡ traceTo f n k a ⊕ traceTo f n k b
+  pub traceTo-⊕ : (k a b : ℕ) → traceTo f n k (a ⊕ b) ≡ traceTo f n k a ⊕ traceTo f n k b
   unfolding traceTo
   traceTo-⊕ zero a b = sym (⊕-zero 0)
   traceTo-⊕ (suc k) a b =
@@ -25,13 +25,13 @@ module _ (f n : ℕ) (deg : Degree f n) where
   unfolding trace
   trace-⊕ a b = traceTo-⊕ n a b
 
-  traceTo-lt : (k a : ℕ) → a < 2 ^ n → traceTo f n k a < 2 ^ n
+  pub traceTo-lt : (k a : ℕ) → a < 2 ^ n → traceTo f n k a < 2 ^ n
   unfolding traceTo
   traceTo-lt zero a h = pow-pos n
   traceTo-lt (suc k) a h = ⊕-lt n (traceTo f n k a) (squared f n k a) (traceTo-lt k a h) (squared-lt f n deg k a h)
 
   -- squared, the first k conjugates become those from 1 to k
-  traceTo-square : (k a : ℕ) → mulMod f n (traceTo f n k a) (traceTo f n k a) ⊕ a ≡ traceTo f n k a ⊕ squared f n k a
+  pub traceTo-square : (k a : ℕ) → mulMod f n (traceTo f n k a) (traceTo f n k a) ⊕ a ≡ traceTo f n k a ⊕ squared f n k a
   unfolding traceTo squared
   traceTo-square zero a = rw (mulMod-zero-r f n 0)
   traceTo-square (suc k) a =
