@@ -18,6 +18,7 @@ use Rattle.refusals.specs.Verdicts.{Rule}
 use Rattle.field.specs.Refusals.{elementRule, multiplyOrder, squareOrder, traceOrder, checkOrder}
 use Rattle.sheet.specs.Record.{recordCount, conjugateIn, polynomialIn}
 use Rattle.sheet.specs.Orders.{recordRules, differRules, valueRules, listRule, zeroRule, shapeOrder, basisOrder, rebuiltFrom, buildOrder, readOrder, valueOrder, listOrder}
+use Rattle.sheet.specs.Listed.{OnShape, OnReading, shape-listed, read-listed}
 use Rattle.matrices.specs.Matrices.{matricesText, lineCount}
 use Rattle.matrices.specs.Orders.{textRoomRule, matchRule, writeTextOrder, readTextOrder}
 use Rattle.matrices.specs.Judging.{basedOrder, based-listed}
@@ -48,10 +49,6 @@ search-listed f first last = listed-at-zero (searchOrder f first last) refl
 
 -- ---- the calls on a sheet of m records: a record's number is its place
 
--- "7, then records from 0 upward with 8 before 9 in each"
-abbrev pub OnShape : (m : ℕ) → ℕ → ℕ → Type 0
-OnShape m k p = AtZero (7 ∷ []) k p ⊎ Below (8 ∷ 9 ∷ []) m k p
-
 -- "then 4"
 abbrev pub OnValue : (m : ℕ) → ℕ → ℕ → Type 0
 OnValue m k p = AtZero (4 ∷ []) k p ⊎ OnShape m k p
@@ -64,10 +61,6 @@ OnDivision m k p = AtZero (13 ∷ []) k p ⊎ OnValue m k p
 abbrev pub OnList : (m l : ℕ) → ℕ → ℕ → Type 0
 OnList m l k p = AtZero (11 ∷ []) k p ⊎ (Below (4 ∷ []) l k p ⊎ OnShape m k p)
 
--- "then 2, 3, 5 .., then 10"
-abbrev pub OnReading : (m : ℕ) → ℕ → ℕ → Type 0
-OnReading m k p = AtZero (2 ∷ 3 ∷ 5 ∷ []) k p ⊎ (Below (10 ∷ []) m k p ⊎ OnShape m k p)
-
 -- "then 6"
 abbrev pub OnWritingText : (m : ℕ) → ℕ → ℕ → Type 0
 OnWritingText m k p = AtZero (6 ∷ []) k p ⊎ OnReading m k p
@@ -76,27 +69,10 @@ OnWritingText m k p = AtZero (6 ∷ []) k p ⊎ OnReading m k p
 abbrev pub OnReadingText : (n : ℕ) → ℕ → ℕ → Type 0
 OnReadingText n k p = AtZero (1 ∷ 4 ∷ 2 ∷ 3 ∷ 5 ∷ []) k p ⊎ Below (14 ∷ []) (lineCount n + 1) k p
 
-records-listed : (sheet : List ℕ) (m k i : ℕ) → i + k ≤ m → Every (Below (8 ∷ 9 ∷ []) m) (recordRules sheet i k)
-unfolding recordRules
-records-listed sheet m zero i h = tt
-records-listed sheet m (suc k) i h = ((inl refl, omega arith), ((inr (inl refl), omega arith), records-listed sheet m k (i + 1) (omega arith)))
-
-differ-listed : (sheet rebuilt : List ℕ) (m k i : ℕ) → i + k ≤ m → Every (Below (10 ∷ []) m) (differRules sheet rebuilt i k)
-unfolding differRules
-differ-listed sheet rebuilt m zero i h = tt
-differ-listed sheet rebuilt m (suc k) i h = ((inl refl, omega arith), differ-listed sheet rebuilt m k (i + 1) (omega arith))
-
 values-listed : (n l i : ℕ) (values : List ℕ) → i + length values ≤ l → Every (Below (4 ∷ []) l) (valueRules n i values)
 unfolding valueRules
 values-listed n l i [] h = tt
 values-listed n l i (v ∷ values) h = ((inl refl, omega arith), values-listed n l (i + 1) values (omega arith))
-
-shape-listed : (sheet : List ℕ) → Every (OnShape (recordCount sheet)) (shapeOrder sheet)
-shape-listed sheet =
-    let m : ℕ = recordCount sheet in (
-      inl (inl refl, refl),
-      every-also (Below (8 ∷ 9 ∷ []) m) (OnShape m) (λ k p h. inr h) (recordRules sheet 0 m) (records-listed sheet m m 0 (omega arith)),
-    )
 
 pub value-listed : (sheet values : List ℕ) → Every (OnValue (recordCount sheet)) (valueOrder sheet values)
 value-listed sheet values =
@@ -118,17 +94,6 @@ list-listed sheet from into =
     every-append (OnList m l) (shapeOrder sheet) (listRule l into ∷ valueRules m 0 from)
     (every-also (OnShape m) (OnList m l) (λ k p h. inr (inr h)) (shapeOrder sheet) (shape-listed sheet))
     (inl (inl refl, refl), every-also (Below (4 ∷ []) l) (OnList m l) (λ k p h. inr (inl h)) (valueRules m 0 from) (values-listed m l 0 from (omega arith)))
-
-pub read-listed : (sheet : List ℕ) → Every (OnReading (recordCount sheet)) (readOrder sheet)
-read-listed sheet =
-    let m : ℕ = recordCount sheet in
-    let basis : List Rule = basisOrder (polynomialIn sheet) (recordCount sheet) (conjugateIn sheet 0) in
-    let differ : List Rule = differRules sheet (rebuiltFrom sheet) 0 m in
-    every-append (OnReading m) (shapeOrder sheet) (basis ++ differ)
-    (every-also (OnShape m) (OnReading m) (λ k p h. inr (inr h)) (shapeOrder sheet) (shape-listed sheet))
-    (every-append (OnReading m) basis differ
-    (every-also (AtZero (2 ∷ 3 ∷ 5 ∷ [])) (OnReading m) (λ k p h. inl h) basis (listed-at-zero basis refl))
-    (every-also (Below (10 ∷ []) m) (OnReading m) (λ k p h. inr (inl h)) differ (differ-listed sheet (rebuiltFrom sheet) m m 0 (omega arith))))
 
 pub write-listed : (sheet : List ℕ) (room : ℕ) → Every (OnWritingText (recordCount sheet)) (writeTextOrder sheet room)
 write-listed sheet room =

@@ -22,6 +22,7 @@ use Rattle.field.specs.Answers.{checkAnswer, multiplyAnswer, squareAnswer, trac
 use Rattle.field.specs.Refusals.{multiplyOrder, squareOrder, traceOrder, checkOrder}
 use Rattle.sheet.specs.Record.{recordCount}
 use Rattle.sheet.specs.Orders.{buildOrder, readOrder, polynomialOrder, normalOrder, timesOrder, inverseOrder, quotientOrder, polynomialListOrder, normalListOrder}
+use Rattle.sheet.specs.Listed.{OnReading, read-listed}
 use Rattle.sheet.specs.Answers.{issueOf, issuedOf, issuedReport, buildAnswer, builtBuffer, readAnswer, polynomialAnswer, normalAnswer, timesAnswer, inverseAnswer, quotientAnswer, polynomialListAnswer, polynomialList, normalListAnswer, normalList}
 use Rattle.sheet.specs.Answered.{issued-report}
 use Rattle.sheet.specs.declared.answer.Summary.{Summary}
@@ -38,7 +39,7 @@ use Rattle.search.specs.declared.answer.Search.the-variants as searched
 use Rattle.promises.specs.Calls as calls
 use Rattle.promises.specs.Calls.{Run}
 use Rattle.promises.specs.Demand1.{check-is, multiply-is, square-is, trace-is, build-is, read-is, to-polynomial-is, to-normal-is, times-is, inverse-is, quotient-is, list-to-polynomial-is, list-to-normal-is, write-matrices-is, read-matrices-is, search-is}
-use Rattle.promises.specs.Listed.{OnValue, OnDivision, OnList, OnReading, OnWritingText, OnReadingText, multiply-listed, square-listed, trace-listed, check-listed, build-listed, search-listed, value-listed, value-positive, division-listed, division-positive, list-listed, list-positive, read-listed, read-positive, write-listed, write-positive, text-listed, text-positive}
+use Rattle.promises.specs.Listed.{OnValue, OnDivision, OnList, OnWritingText, OnReadingText, multiply-listed, square-listed, trace-listed, check-listed, build-listed, search-listed, value-listed, value-positive, division-listed, division-positive, list-listed, list-positive, read-positive, write-listed, write-positive, text-listed, text-positive}
 use Rattle.refusals.specs.Told.{AtZero, Every, Told, ValueTold, CheckedTold, numberOf, placeOf}
 use Rattle.refusals.specs.Telling.{nonzero, placed-zero, at-zero-positive, told, value-told, checked-told}
 

@@ -18,6 +18,7 @@ use Rattle.field.specs.Answers.{checkAnswer, checkReport, multiplyAnswer, multi
 use Rattle.field.specs.Refusals.{multiplyOrder, squareOrder, traceOrder, checkOrder}
 use Rattle.sheet.specs.Record.{recordCount}
 use Rattle.sheet.specs.Orders.{buildOrder, readOrder, polynomialOrder, normalOrder, timesOrder, inverseOrder, quotientOrder, polynomialListOrder, normalListOrder}
+use Rattle.sheet.specs.Listed.{OnReading, read-listed}
 use Rattle.sheet.specs.Answers.{issueOf, buildAnswer, buildReport, builtBuffer, readAnswer, readReport, polynomialAnswer, polynomialReport, normalAnswer, normalReport, timesAnswer, timesReport, inverseAnswer, inverseReport, quotientAnswer, quotientReport, polynomialListAnswer, polynomialListReport, polynomialList, normalListAnswer, normalListReport, normalList}
 use Rattle.sheet.specs.declared.answer.Summary.{Summary}
 use Rattle.sheet.specs.declared.answer.Issued.{Issued}
@@ -36,7 +37,7 @@ use Rattle.capi.specs.declared.answer.DeskFound.{DeskFound}
 use Rattle.promises.specs.Calls as calls
 use Rattle.promises.specs.Calls.{Run}
 use Rattle.promises.specs.Exports.{desk-check-is, desk-multiply-is, desk-square-is, desk-trace-is, desk-build-is, desk-read-is, desk-to-polynomial-is, desk-to-normal-is, desk-times-is, desk-inverse-is, desk-quotient-is, desk-list-to-polynomial-is, desk-list-to-normal-is, desk-write-matrices-is, desk-read-matrices-is, desk-search-is}
-use Rattle.promises.specs.Listed.{OnValue, OnDivision, OnList, OnReading, OnWritingText, OnReadingText, multiply-listed, square-listed, trace-listed, check-listed, build-listed, search-listed, value-listed, value-positive, division-listed, division-positive, list-listed, list-positive, read-listed, read-positive, write-listed, write-positive, text-listed, text-positive}
+use Rattle.promises.specs.Listed.{OnValue, OnDivision, OnList, OnWritingText, OnReadingText, multiply-listed, square-listed, trace-listed, check-listed, build-listed, search-listed, value-listed, value-positive, division-listed, division-positive, list-listed, list-positive, read-positive, write-listed, write-positive, text-listed, text-positive}
 use Rattle.promises.specs.Refused.{issue-told, done-searched, answered-number}
 use Rattle.refusals.specs.Told.{AtZero, Every, Told, numberOf}
 use Rattle.refusals.specs.Telling.{nonzero, placed-zero, at-zero-positive, told, report-told, done-value, done-checked}

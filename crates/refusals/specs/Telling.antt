@@ -2,6 +2,8 @@
 --
 --   first-found, found-first    a verdict refuses with the number and the place of the first rule that applies
 --   every-..                    what holds of every rule of an order holds of the one that is found
+--   part-passed                 an order in two parts: a refusal that the first part does not have
+--   absent-lacks, rule-applies  a number that an order does not have, by a test; one that it has once
 --   listed-at-zero, ..-positive   the numbers of an order are its own, and none of them is 0
 --   told                        a call, by the number, the place and the values that it hands out
 --   report-told, value-told, checked-told   the same for a report, and for the two enums of this crate
@@ -9,16 +11,17 @@
 -- Assumes nothing.
 use mathlib.Core.Path.{_≡_, refl, sym, ap, _∙_}
 use mathlib.Core.Logic.{_⊎_, inl, inr, _↔_}
-use mathlib.Core.Bool.{Bool, true, false, _&&_}
+use mathlib.Core.Bool.{Bool, true, false, not, _&&_}
 use mathlib.Core.List.{List, [], _∷_, _++_, map}
 use Prim.Native.Nat.{ℕ, _<_}
 use native.Mathlib.Omega.{arith}
-use lib.Dec.{ltb}
-use borrow.Author.Tests.{ltb-true}
+use lib.Dec.{ltb, eqb}
+use borrow.Author.Tests.{ltb-true, eqb-false}
+use Rattle.gf2.specs.Truth.{not-true, and-parts}
 use Rattle.refusals.specs.Verdicts.{Rule, Verdict, clear, refuse, firstOf}
 use Rattle.refusals.specs.Answers.{answerOf, reportOf, valueOf, checkedOf}
 use Rattle.refusals.specs.Answered.{value-report, checked-report}
-use Rattle.refusals.specs.Orders.{refuse-not-clear, first-applies, first-passes}
+use Rattle.refusals.specs.Orders.{refuse-not-clear, first-applies, first-passes, part-refused, part-clear}
 use Rattle.refusals.specs.Told.{numberOf, placeOf, First, here, later, In, AtZero, Below, Every, numbersOf, placesOf, AllZero, Told, ValueTold, CheckedTold}
 use Rattle.refusals.specs.declared.answer.Value.the-variants as value
 use Rattle.refusals.specs.declared.answer.Checked.the-variants as checked
@@ -56,6 +59,49 @@ every-append P (r ∷ xs) ys all rest = (all .0, every-append P xs ys (all .1) r
 pub every-also : (P Q : ℕ → ℕ → Type 0) → ((k p : ℕ) → P k p → Q k p) → (rs : List Rule) → Every P rs → Every Q rs
 every-also P Q h [] all = tt
 every-also P Q h (r ∷ rs) all = (h (r .number) (r .place) (all .0), every-also P Q h rs (all .1))
+
+-- what a first part does not refuse with, the rest does, and the first part finds nothing
+pub part-passed : (P : ℕ → ℕ → Type 0) (xs ys : List Rule) (k p : ℕ) → Every P xs → (P k p → ⊥) → firstOf (xs ++ ys) ≡ refuse k p
+    → (firstOf xs ≡ clear) × (firstOf ys ≡ refuse k p)
+part-passed P xs ys k p all off e = go (firstOf xs) refl
+  where
+    go : (v : Verdict) → firstOf xs ≡ v → (firstOf xs ≡ clear) × (firstOf ys ≡ refuse k p)
+    go clear c = (c, sym (part-clear xs ys c) ∙ e)
+    go (refuse l q) c = absurd (off (every-first P xs k p all (first-found xs k p (c ∙ sym (part-refused xs ys l q c) ∙ e))))
+
+-- ---- a number that an order does not have
+
+abbrev pub Lacks : (k : ℕ) → List Rule → Type 0
+Lacks k rs = Every (λ m p. m ≡ k → ⊥) rs
+
+-- the same as a test, of the order's numbers
+abbrev pub absent : (k : ℕ) → List ℕ → Bool
+absent k [] = true
+absent k (m ∷ ks) = not (eqb m k) && absent k ks
+
+pub absent-lacks : (k : ℕ) (rs : List Rule) → absent k (numbersOf rs) ≡ true → Lacks k rs
+absent-lacks k [] e = tt
+absent-lacks k (r ∷ rs) e =
+    let s = and-parts (not (eqb (r .number) k)) (absent k (numbersOf rs)) e in
+    (eqb-false (r .number) k (not-true (eqb (r .number) k) .0 (s .0)), absent-lacks k rs (s .1))
+
+-- a number that stands once in an order is that of its rule: nothing before it applies, and it does
+pub rule-applies : (xs : List Rule) (r : Rule) (ys : List Rule) (p : ℕ) → absent (r .number) (numbersOf xs) ≡ true → Lacks (r .number) ys
+    → firstOf (xs ++ (r ∷ ys)) ≡ refuse (r .number) p → (firstOf xs ≡ clear) × (r .applies ≡ true)
+rule-applies xs r ys p before after e = (x .0, go (r .applies) refl)
+  where
+    Other : ℕ → ℕ → Type 0
+    Other m q = m ≡ r .number → ⊥
+
+    x : (firstOf xs ≡ clear) × (firstOf (r ∷ ys) ≡ refuse (r .number) p)
+    x = part-passed Other xs (r ∷ ys) (r .number) p (absent-lacks (r .number) xs before) (λ off. off refl) e
+
+    go : (b : Bool) → r .applies ≡ b → r .applies ≡ true
+    go true a = a
+    go false a =
+        absurd (every-first Other ys (r .number) p after (first-found ys (r .number) p (sym (first-passes r ys a) ∙ x .1)) refl)
+
+-- ---- places
 
 -- an order whose places are all 0 has its own numbers
 pub listed-at-zero : (rs : List Rule) → placesOf rs ≡ map (λ (r : Rule). 0) rs → Every (AtZero (numbersOf rs)) rs

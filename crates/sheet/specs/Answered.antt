@@ -7,6 +7,7 @@ use Prim.Native.Nat.{ℕ}
 use native.Mathlib.Omega.{arith}
 use Rattle.refusals.specs.Verdicts.{Verdict, clear, refuse, firstOf}
 use Rattle.refusals.specs.Answers.{answerOf}
+use Rattle.refusals.specs.declared.answer.Refusal.{Refusal}
 use Rattle.refusals.specs.Orders.{parts-clear}
 use Rattle.sheet.specs.Orders.{shapeOrder, rebuildOrder, readOrder, Shaped}
 use Rattle.sheet.specs.Answers.{issueOf, issuedOf, issuedReport, summaryIn, readAnswer}
@@ -28,6 +29,12 @@ pub done-clear : (v : Verdict) (s t : Summary) → issuedOf v s ≡ issued.Done 
 unfolding answerOf
 done-clear clear s t e = refl
 done-clear (refuse k p) s t e = let z : _≡_ {A = ℕ} 0 1 = cc in absurd (omega arith)
+
+-- and one that refuses has the number and the place of its answer
+pub refused-verdict : (v : Verdict) (s : Summary) {r : Refusal} → issuedOf v s ≡ issued.Refused r → v ≡ refuse (r .number) (r .place)
+unfolding answerOf
+refused-verdict clear s e = let z : _≡_ {A = ℕ} 0 1 = cc in absurd (omega arith)
+refused-verdict (refuse k p) s e = cc
 
 -- a sheet that reading accepts has a good shape
 pub done-shaped : (sheet : List ℕ) (s : Summary) → readAnswer sheet ≡ issued.Done s → Shaped sheet

@@ -3,6 +3,7 @@
 --   based-..                       what `Based f n a` says of f, n and a, as the laws of `field` and `normal` ask for it
 --   build-issues, build-based      build finds nothing to refuse exactly if the element is based and there is room
 --   build-tied                     and else refuses with 5, where f is accepted, the element below 2^n and the room enough
+--   shaped-based                   what a sheet of good shape names is based where 2, 3 and 5 do not apply
 --   read-sheet, sheet-reads        reading finds nothing to refuse exactly if the bytes are the sheet of some f and a
 --
 -- Assumes nothing.
@@ -102,6 +103,18 @@ module _ (f a room : ℕ) where
 
 -- ---- reading
 
+-- the polynomial and the element that a sheet of good shape names, where 2, 3 and 5 do not apply
+pub shaped-based : (sheet : List ℕ) → Shaped sheet → firstOf (basisOrder (polynomialIn sheet) (recordCount sheet) (conjugateIn sheet 0)) ≡ clear
+    → Based (polynomialIn sheet) (recordCount sheet) (conjugateIn sheet 0)
+unfolding degreeOutside
+shaped-based sheet z c =
+    let f : ℕ = polynomialIn sheet in
+    let n : ℕ = recordCount sheet in
+    let two : 2 ≤ n = z .size .two in
+    let size : degree f ≡ n = degree-eq f n (polynomial-degree sheet z) in
+    let inside : degreeOutside f ≡ false = rw (size, le-ltb n 2 two, le-ltb limit n (z .size .most)) in
+    clear-based f n (conjugateIn sheet 0) inside size (columns-lt sheet z 0 (omega arith) .1) c
+
 module _ (sheet : List ℕ) (c : firstOf (readOrder sheet) ≡ clear) where
   abbrev n : ℕ
   n = recordCount sheet
@@ -121,14 +134,10 @@ module _ (sheet : List ℕ) (c : firstOf (readOrder sheet) ≡ clear) where
 
   -- what reading accepts is the sheet of the polynomial and the element that it names
   pub read-sheet : SheetOf (polynomialIn sheet) (recordCount sheet) (conjugateIn sheet 0) sheet
-  unfolding degreeOutside
   read-sheet =
       let z : Shaped sheet = clear-shaped sheet (parts .0) in
-      let two : 2 ≤ n = z .size .two in
-      let size : degree f ≡ n = degree-eq f n (polynomial-degree sheet z) in
-      let inside : degreeOutside f ≡ false = rw (size, le-ltb n 2 two, le-ltb limit n (z .size .most)) in
       record {
-        based = clear-based f n a inside size (columns-lt sheet z 0 (omega arith) .1) (parts .1);
+        based = shaped-based sheet z (parts .1);
         bytes = same-sheets sheet (rebuiltFrom sheet) n (z .size .whole) (sheetBytes-length f n a) (parts .2);
       }
 
