@@ -32,7 +32,7 @@ pub fn too_large(n: u32, a: u64) -> bool
 }
 
 // a squared k times in a row.
-fn squared_times(table: &[u16; 256], f: u64, n: u32, k: u32, a: u64) -> u64
+pub fn squared_times(table: &[u16; 256], f: u64, n: u32, k: u32, a: u64) -> u64
     requires { ⌜ SpreadTable (now table) × Operand f n a ⌝ }
     ensures { λ r. ⌜ r ≡ squared f n k a ⌝ }
 {

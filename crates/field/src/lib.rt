@@ -5,6 +5,7 @@ mod judging;
 mod powers;
 
 pub use accepted::field_verdict;
+pub use accepted::squared_times;
 pub use accepted::too_large;
 pub use calls::check;
 pub use calls::multiply;
