@@ -5,7 +5,7 @@
 --   Matrix rows n           rows is a matrix of degree n
 --   Independent rows n      no non-empty set of the first n rows sums to zero; `independent rows n` tests it
 --   Inverse rows n inv      inv is the inverse of rows, both ways round
---   Dependency rows n v     v is the smallest number that picks rows that sum to zero
+--   Dependency rows n v     v is the smallest number other than 0 that picks rows that sum to zero
 --   Inverts rows n r        r is what inversion answers for rows
 --
 -- n is the degree throughout: the number of rows that count, and of bits in a row.
