@@ -12,9 +12,12 @@ use Rattle.gf2.specs.Numbers.{order}
 use Rattle.io.specs.Counts.{Counts}
 use Rattle.io.specs.Digits.{digits, Fewest}
 use Rattle.sheet.specs.Record.{conjugateIn, inverseIn, tableIn}
-use Rattle.listing.specs.Text.{space, newline, complexityWord, gradeWord, refusedWord, numberThen, rowLine, rowLines, lastLine, refusedLine}
+use Rattle.causes.specs.declared.answer.Field.{Field}
+use Rattle.causes.specs.declared.answer.Field.the-variants as field
+use Rattle.causes.specs.declared.answer.Difference.{Difference}
+use Rattle.listing.specs.Text.{space, newline, complexityWord, gradeWord, refusedWord, conjugateWord, inverseWord, tableWord, fieldWord, numberThen, rowLine, rowLines, lastLine, refusedLine, differenceLine}
 use Rattle.listing.specs.Decimal.{decimal-digits}
-use Rattle.listing.specs.Room.{numberPlaces, numberRoom}
+use Rattle.listing.specs.Room.{numberPlaces, numberRoom, fieldRoom}
 use Rattle.listing.specs.Putting.{Put, put-none, put-then, put-mark}
 
 -- ---- a number
@@ -70,3 +73,16 @@ pub refused-put : (number place : ℕ) {start t1 t2 t3 : List ℕ} {m1 m2 m3 : �
     → Put start 0 (refusedLine number place) t3 m3
 unfolding refusedLine
 refused-put number place p q r = put-then (put-then p q) r
+
+pub field-short : (c : Field) → length (fieldWord c) ≤ fieldRoom
+unfolding fieldWord conjugateWord inverseWord tableWord
+field-short field.Conjugate = omega arith
+field-short field.Inverse = omega arith
+field-short field.Table = omega arith
+
+pub difference-put : (d : Difference) {start t1 t2 t3 t4 : List ℕ} {at m1 m2 m3 m4 : ℕ}
+    → Put start at (numberThen (d .place) space) t1 m1 → Put t1 m1 (fieldWord (d .field)) t2 m2
+    → Put t2 m2 (numberThen (d .stored) space) t3 m3 → Put t3 m3 (numberThen (d .right) newline) t4 m4
+    → Put start at (differenceLine d) t4 m4
+unfolding differenceLine
+difference-put d p q r s = put-then (put-then (put-then p q) r) s

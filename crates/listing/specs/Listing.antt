@@ -15,8 +15,10 @@ use Rattle.sheet.specs.Record.{recordCount}
 use Rattle.sheet.specs.Answers.{readAnswer}
 use Rattle.sheet.specs.declared.answer.Summary.{Summary}
 use Rattle.sheet.specs.declared.answer.Issued.the-variants as issued
-use Rattle.listing.specs.Text.{rowLines, lastLine, refusedLine, listingBy, listingOf}
-use Rattle.listing.specs.Room.{rowRoom, lastRoom, refusedRoom, listingRoom}
+use Rattle.causes.specs.Causes.{whyAnswer}
+use Rattle.causes.specs.declared.answer.Cause.{Cause}
+use Rattle.listing.specs.Text.{rowLines, lastLine, refusedLine, causeLine, listingBy, listingOf}
+use Rattle.listing.specs.Room.{rowRoom, lastRoom, refusedRoom, causeRoom, listingRoom}
 use Rattle.listing.specs.Putting.{Put, put-then, put-front}
 
 -- ---- each listing fits into its room
@@ -24,7 +26,7 @@ use Rattle.listing.specs.Putting.{Put, put-then, put-front}
 pub rows-fit : (n : ℕ) → n ≤ limit → rowRoom * n + lastRoom ≤ listingRoom
 rows-fit n h = omega (arith, mul-le-mul-left rowRoom h)
 
-pub refused-fits : refusedRoom ≤ listingRoom
+pub refused-fits : refusedRoom + causeRoom ≤ listingRoom
 refused-fits = omega arith
 
 -- ---- the lines that are put are the listing
@@ -46,7 +48,8 @@ unfolding listingOf listingBy
 listed-done sheet s {start} {b} {c} {m} {n} e p q =
     rw e (front-counted start (rowLines sheet (recordCount sheet) ++ lastLine (s .complexity) (gradeNumber (s .grade))) c n (put-front (put-then p q)))
 
-pub listed-refused : (sheet : List ℕ) (r : Refusal) {start text : List ℕ} {n : ℕ} → readAnswer sheet ≡ issued.Refused r
-    → Put start 0 (refusedLine (r .number) (r .place)) text n → Listed start sheet text n
+pub listed-refused : (sheet : List ℕ) (r : Refusal) {start b c : List ℕ} {m n : ℕ} → readAnswer sheet ≡ issued.Refused r
+    → Put start 0 (refusedLine (r .number) (r .place)) b m → {w : Cause} → w ≡ whyAnswer sheet → Put b m (causeLine w) c n → Listed start sheet c n
 unfolding listingOf listingBy
-listed-refused sheet r {start} {text} {n} e p = rw e (front-counted start (refusedLine (r .number) (r .place)) text n (put-front p))
+listed-refused sheet r {start} {b} {c} {m} {n} e p {w} k q =
+    rw e (front-counted start (refusedLine (r .number) (r .place) ++ causeLine (whyAnswer sheet)) c n (put-front (put-then p (rw k at q))))

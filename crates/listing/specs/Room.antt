@@ -26,6 +26,14 @@ lastRoom = 11 + numberRoom + 6 + numberRoom
 abbrev pub refusedRoom : ℕ
 refusedRoom = 8 + numberRoom + numberRoom
 
+-- the longest of the words conjugate, inverse and table, and the space after it (`field-short` in `Lines`)
+abbrev pub fieldRoom : ℕ
+fieldRoom = 10
+
+-- "the record, the word conjugate, inverse or table, the stored number and the right one, single spaces between"
+abbrev pub causeRoom : ℕ
+causeRoom = numberRoom + fieldRoom + numberRoom + numberRoom
+
 -- as many rows as a sheet can have, and the last line
 abbrev pub listingRoom : ℕ
 listingRoom = rowRoom * limit + lastRoom

@@ -1,8 +1,11 @@
-// The text of a listing (document 01, "Lister").
+// The text of a listing (document 01, "Lister"; document 02, §5).
+mod cause;
 mod lines;
 mod putting;
 mod text;
 
+pub use cause::CAUSE_ROOM;
+pub use cause::put_cause;
 pub use putting::NUMBER_ROOM;
 pub use putting::put_bytes;
 pub use putting::put_number;

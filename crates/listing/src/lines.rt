@@ -14,9 +14,9 @@ use normal::Grade;
 use normal::grade_number;
 use sheet::row_at;
 
-const SPACE: u8 = 32;
+pub const SPACE: u8 = 32;
 
-const NEWLINE: u8 = 10;
+pub const NEWLINE: u8 = 10;
 
 // The most bytes of a row's line, and of the last line. The specs have them as `rowRoom` and `lastRoom`.
 pub const ROW_ROOM: usize = 4 * NUMBER_ROOM;
@@ -66,7 +66,8 @@ pub fn put_last(text: &mut [u8], at: usize, complexity: u32, grade: Grade) -> us
 // The line of a refusal.
 pub fn put_refused(text: &mut [u8], number: u8, place: usize) -> usize
     requires { ⌜ refusedRoom ≤ length (now text) ⌝ }
-    ensures { λ r. ⌜ Put (now (text .entry)) 0 (refusedLine number place) (now (text .exit)) r ⌝ }
+    ensures put { λ r. ⌜ Put (now (text .entry)) 0 (refusedLine number place) (now (text .exit)) r ⌝ }
+    ensures short { λ r. ⌜ r ≤ refusedRoom ⌝ }
 {
     let first = put_bytes(text, 0, b"refused ");
     let second = put_number(text, first, number as u64, SPACE);

@@ -4,11 +4,13 @@ ghost use mathlib.Core.List.{_++_};
 ghost use lib.ListN.{length, drop};
 ghost use Rattle.io.specs.Counts.{Counts};
 ghost use Rattle.listing.specs.Text.{listingOf};
+use super::cause::put_cause;
 use super::lines::LAST_ROOM;
 use super::lines::ROW_ROOM;
 use super::lines::put_last;
 use super::lines::put_refused;
 use super::lines::put_rows;
+use causes::why;
 use gf2::LIMIT;
 use sheet::Issued;
 use sheet::RECORD;
@@ -25,7 +27,10 @@ pub fn listing(sheet: &[u8], text: &mut [u8; LISTING_ROOM]) -> usize
     ensures counted { λ r. ⌜ Counts r (now (text .exit)) ⌝ }
 {
     match read(sheet) {
-        Issued::Refused(refusal) => put_refused(text, refusal.number, refusal.place),
+        Issued::Refused(refusal) => {
+            let at = put_refused(text, refusal.number, refusal.place);
+            put_cause(text, at, why(sheet))
+        }
         Issued::Done(summary) => {
             let grade = summary.grade;
             let at = put_rows(text, sheet, sheet.len() / RECORD);

@@ -1,5 +1,7 @@
 -- `listing::lines::put_refused` meets its contract: the word and the two numbers, each after the one before.
 -- Assumes nothing.
+use mathlib.Core.Path.{_≡_}
+use native.Mathlib.Omega.{arith}
 use borrow.Author.Needs.{needs}
 use Rattle.listing.specs.Text.{refusedWord}
 use Rattle.listing.specs.Lines.{refused-put}
@@ -28,7 +30,8 @@ returns c =
     let n1 = n2 .before .before .before .before in
     let b = n1 .before .before .before .before in
     let s = b .before .before .before .before in
-    refused-put (s .args .number) (s .args .place) (b .put-bytes .ensures) (n1 .put-number .ensures .0) (n2 .put-number2 .ensures .0)
+    let ends : b .put-bytes .result ≡ 8 = b .put-bytes .ensures .ends in
+    (refused-put (s .args .number) (s .args .place) (b .put-bytes .ensures) (n1 .put-number .ensures .0) (n2 .put-number2 .ensures .0), omega (arith, n1 .put-number .ensures .1, n2 .put-number2 .ensures .1))
 
 pub put-refused-spec : {M : Type 1} → statement M
 put-refused-spec =

@@ -18,6 +18,14 @@ enum-known-refusal c = search needs
 put-refused-requires : tie.Need-put-refused-requires
 put-refused-requires c κs = omega (arith, refused-fits)
 
+why-requires : tie.Need-why-requires
+why-requires c κs = search needs
+
+put-cause-requires : tie.Need-put-cause-requires
+put-cause-requires c κs =
+    let p = c .before .before in
+    omega (arith, refused-fits, p .put-refused .ensures .1, put-length (p .put-refused .ensures .0))
+
 enum-known-summary : tie.Need-enum-known-summary
 enum-known-summary c = search needs
 
@@ -39,9 +47,12 @@ put-last-requires c κs =
 
 returns : tie.Need-returns
 returns c =
-    let y = c .before .before .before in
+    let w = c .before in
+    let p = w .before .before in
+    let y = p .before .before .before in
     let r = y .before .before in
-    listed-refused (r .before .before .args .sheet .now) (y .refusal .given .0 .0) (sym (r .read .ensures .0) ∙ y .refusal .given .1) (c .put-refused .ensures)
+    listed-refused (r .before .before .args .sheet .now) (y .refusal .given .0 .0) (sym (r .read .ensures .0) ∙ y .refusal .given .1)
+    (p .put-refused .ensures .0) (w .why .ensures) (c .put-cause .ensures)
 
 returns-2 : tie.Need-returns-2
 returns-2 c =
@@ -57,6 +68,8 @@ listing-spec =
     read-requires
     enum-known-refusal
     put-refused-requires
+    why-requires
+    put-cause-requires
     enum-known-summary
     put-rows-requires
     put-last-requires
