@@ -4,13 +4,15 @@
 --   deskIssued p     that of a built or read sheet, and of a text written or read
 --   foundFlag s      1 where the search's answer is its case "found", else 0
 --   deskFound b p    that of the search, beside that flag
+--   deskCause p      that of why reading refuses a sheet
 --   deskWord w       what a typed word means, which is no report: reading a word refuses nothing
 --
--- That a refusal's other values are zero stands in the reports (`reportOf`, `issueOf`, `refusedReport`).
+-- That a refusal's other values are zero stands in the reports (`reportOf`, `issueOf`, `refusedReport`, `causeReport`).
 -- Assumes nothing.
 use Prim.Native.Nat.{ℕ}
 use Rattle.refusals.specs.Answers.{Report}
 use Rattle.sheet.specs.Answers.{Issue}
+use Rattle.causes.specs.Causes.{Reason}
 use Rattle.search.specs.Answers.{SearchReport}
 use Rattle.search.specs.declared.answer.Search.{Search}
 use Rattle.search.specs.declared.answer.Search.the-variants.{Refused, Nothing, Found}
@@ -19,6 +21,7 @@ use Rattle.words.specs.declared.answer.Word.the-variants.{Unclear, Number}
 use Rattle.capi.specs.declared.answer.DeskValue.{DeskValue}
 use Rattle.capi.specs.declared.answer.DeskIssued.{DeskIssued}
 use Rattle.capi.specs.declared.answer.DeskFound.{DeskFound}
+use Rattle.capi.specs.declared.answer.DeskCause.{DeskCause}
 use Rattle.capi.specs.declared.answer.DeskWord.{DeskWord}
 
 abbrev pub deskValue : Report → DeskValue
@@ -35,6 +38,9 @@ foundFlag (Found x) = 1
 
 abbrev pub deskFound : (found : ℕ) → SearchReport → DeskFound
 deskFound b p = record { number = p .number; found = b; element = p .element; complexity = p .complexity; grade = p .grade; count = p .count }
+
+abbrev pub deskCause : Reason → DeskCause
+deskCause p = record { number = p .number; place = p .place; cause = p .cause; field = p .field; stored = p .stored; right = p .right }
 
 -- an unclear word has the value 0, which a clear word may have as well: the flag tells them apart
 unfoldable pub deskWord : Word → DeskWord

@@ -3,7 +3,12 @@ ghost use mathlib.Core.Path.{_≡_};
 ghost use Rattle.refusals.specs.Answers.{valueReport, checkedReport};
 ghost use Rattle.sheet.specs.Answers.{issuedReport};
 ghost use Rattle.search.specs.Answers.{refusedReport, caseReport};
-ghost use Rattle.capi.specs.Answers.{deskValue, deskIssued, deskFound, deskWord, foundFlag};
+ghost use Rattle.causes.specs.Causes.{bareReason, causeReport};
+ghost use Rattle.causes.specs.declared.answer.Cause.the-variants as cause;
+ghost use Rattle.capi.specs.Answers.{deskValue, deskIssued, deskFound, deskCause, deskWord, foundFlag};
+use causes::Cause;
+use causes::Difference;
+use causes::field_number;
 use normal::grade_number;
 use refusals::Checked;
 use refusals::Value;
@@ -38,6 +43,18 @@ pub struct DeskFound {
     pub complexity: u64,
     pub grade: u64,
     pub count: u64,
+}
+
+// Why reading refuses a sheet: the number that lies behind 2, 3 or 5, or for 10 the field that differs, the number stored there and the
+// right one. What a refusal does not have is 0.
+#[repr(C)]
+pub struct DeskCause {
+    pub number: u64,
+    pub place: u64,
+    pub cause: u64,
+    pub field: u64,
+    pub stored: u64,
+    pub right: u64,
 }
 
 // What a word means: clear is 1 and the value its number, or both are 0.
@@ -132,6 +149,49 @@ pub fn found_out(answer: Search) -> DeskFound
                 count: best.count,
             }
         }
+    }
+}
+
+// A cause without a field, handed out.
+fn number_behind(number: u64, place: u64, cause: u64) -> DeskCause
+    ensures { λ r. ⌜ r ≡ deskCause (bareReason number place cause) ⌝ }
+{
+    DeskCause {
+        number,
+        place,
+        cause,
+        field: 0,
+        stored: 0,
+        right: 0,
+    }
+}
+
+// How a record differs, handed out.
+fn difference_out(difference: Difference) -> DeskCause
+    ensures { λ r. ⌜ r ≡ deskCause (causeReport (cause.Differs difference)) ⌝ }
+{
+    let field = difference.field;
+    DeskCause {
+        number: 10,
+        place: difference.place as u64,
+        cause: 0,
+        field: field_number(field),
+        stored: difference.stored,
+        right: difference.right,
+    }
+}
+
+// A cause, handed out.
+pub fn cause_out(answer: Cause) -> DeskCause
+    ensures { λ r. ⌜ r ≡ deskCause (causeReport answer) ⌝ }
+{
+    match answer {
+        Cause::Accepted => number_behind(0, 0, 0),
+        Cause::Refused(refusal) => number_behind(refusal.number as u64, refusal.place as u64, 0),
+        Cause::Divisor(divisor) => number_behind(2, 0, divisor),
+        Cause::Became(element) => number_behind(3, 0, element),
+        Cause::Dependency(set) => number_behind(5, 0, set),
+        Cause::Differs(difference) => difference_out(difference),
     }
 }
 

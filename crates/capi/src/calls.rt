@@ -1,15 +1,18 @@
-// The sixteen calls. Each takes any numbers and lent memory, and its promise gives every number that it hands out and the final state of
+// The seventeen calls. Each takes any numbers and lent memory, and its promise gives every number that it hands out and the final state of
 // what it may write.
 ghost use mathlib.Core.Path.{_≡_};
 ghost use lib.ListN.{length};
 ghost use Rattle.field.specs.Answers.{checkReport, multiplyReport, squareReport, traceReport};
 ghost use Rattle.sheet.specs.Answers.{buildReport, builtBuffer, readReport, polynomialReport, normalReport, timesReport, inverseReport, quotientReport, polynomialListReport, polynomialList, normalListReport, normalList};
+ghost use Rattle.causes.specs.Causes.{causeReport, whyAnswer};
 ghost use Rattle.matrices.specs.Answers.{writeTextReport, writtenText, readTextReport};
 ghost use Rattle.search.specs.Answers.{searchAnswer, searchReport};
-ghost use Rattle.capi.specs.Answers.{deskValue, deskIssued, deskFound, foundFlag};
+ghost use Rattle.capi.specs.Answers.{deskValue, deskIssued, deskFound, deskCause, foundFlag};
+use super::answer::DeskCause;
 use super::answer::DeskFound;
 use super::answer::DeskIssued;
 use super::answer::DeskValue;
+use super::answer::cause_out;
 use super::answer::checked_out;
 use super::answer::found_out;
 use super::answer::issued_out;
@@ -137,6 +140,14 @@ pub extern "C" fn desk_read_matrices(f: u64, element: u64, text: &[u8]) -> DeskI
     ensures { λ r. ⌜ r ≡ deskIssued (readTextReport f element (now (text .entry))) ⌝ }
 {
     issued_out(matrices::read_matrices(f, element, text))
+}
+
+// Why reading refuses the sheet; all zero where it does not.
+#[no_mangle]
+pub extern "C" fn desk_why(sheet: &[u8]) -> DeskCause
+    ensures { λ r. ⌜ r ≡ deskCause (causeReport (whyAnswer (now (sheet .entry)))) ⌝ }
+{
+    cause_out(causes::why(sheet))
 }
 
 // The normal class leader from first to last, both included, whose table has the fewest ones, the smallest on a tie, and the count of all

@@ -4,6 +4,7 @@ mod answer;
 mod calls;
 mod typed;
 
+pub use answer::DeskCause;
 pub use answer::DeskFound;
 pub use answer::DeskIssued;
 pub use answer::DeskValue;
@@ -23,6 +24,7 @@ pub use calls::desk_times;
 pub use calls::desk_to_normal;
 pub use calls::desk_to_polynomial;
 pub use calls::desk_trace;
+pub use calls::desk_why;
 pub use calls::desk_write_matrices;
 pub use typed::desk_number_of;
 pub use typed::desk_polynomial_of;
