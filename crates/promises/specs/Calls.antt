@@ -9,7 +9,7 @@
 --     .exit             the arguments once it has returned: what a lent slice holds then is `now` of it
 --   Determined c      any two results that the promise permits for the same arguments are equal
 --   DeterminedWith c left   and any two final states of what it lends, which `left` picks
---   check, multiply, ..   the seventeen calls of the desk, the eighteen exports, and the two that read a word
+--   check, multiply, ..   the twenty calls of the desk, the nineteen exports, and the two that read a word
 --
 -- A theorem on every run of a call is one on what the call does. Definitions alone.
 -- Assumes nothing.
@@ -45,6 +45,12 @@ use Rattle.sheet.proofs.list_to_polynomial.Reads as list-to-polynomial-reads
 use Rattle.sheet.proofs.list_to_polynomial.Kinds as list-to-polynomial-kinds
 use Rattle.sheet.proofs.list_to_normal.Reads as list-to-normal-reads
 use Rattle.sheet.proofs.list_to_normal.Kinds as list-to-normal-kinds
+use Rattle.causes.proofs.why.Reads as why-reads
+use Rattle.causes.proofs.why.Kinds as why-kinds
+use Rattle.causes.proofs.why_check.Reads as why-check-reads
+use Rattle.causes.proofs.why_check.Kinds as why-check-kinds
+use Rattle.causes.proofs.why_build.Reads as why-build-reads
+use Rattle.causes.proofs.why_build.Kinds as why-build-kinds
 use Rattle.matrices.proofs.write_matrices.Reads as write-matrices-reads
 use Rattle.matrices.proofs.write_matrices.Kinds as write-matrices-kinds
 use Rattle.matrices.proofs.read_matrices.Reads as read-matrices-reads
@@ -79,6 +85,8 @@ use Rattle.capi.proofs.desk_list_to_polynomial.Reads as desk-list-to-polynomial
 use Rattle.capi.proofs.desk_list_to_polynomial.Kinds as desk-list-to-polynomial-kinds
 use Rattle.capi.proofs.desk_list_to_normal.Reads as desk-list-to-normal-reads
 use Rattle.capi.proofs.desk_list_to_normal.Kinds as desk-list-to-normal-kinds
+use Rattle.capi.proofs.desk_why.Reads as desk-why-reads
+use Rattle.capi.proofs.desk_why.Kinds as desk-why-kinds
 use Rattle.capi.proofs.desk_write_matrices.Reads as desk-write-matrices-reads
 use Rattle.capi.proofs.desk_write_matrices.Kinds as desk-write-matrices-kinds
 use Rattle.capi.proofs.desk_read_matrices.Reads as desk-read-matrices-reads
@@ -168,6 +176,17 @@ list-to-polynomial = record { lifetimes = 3; params = list-to-polynomial-kinds.p
 abbrev pub list-to-normal : Call
 list-to-normal = record { lifetimes = 3; params = list-to-normal-kinds.ps; returns = list-to-normal-kinds.r; asks = list-to-normal-reads.Asked; promise = list-to-normal-reads.Post; asks-nothing = λ κs a. tt }
 
+-- ---- causes
+
+abbrev pub why : Call
+why = record { lifetimes = 1; params = why-kinds.ps; returns = why-kinds.r; asks = why-reads.Asked; promise = why-reads.Post; asks-nothing = λ κs a. tt }
+
+abbrev pub why-check : Call
+why-check = record { lifetimes = 0; params = why-check-kinds.ps; returns = why-check-kinds.r; asks = why-check-reads.Asked; promise = why-check-reads.Post; asks-nothing = λ κs a. tt }
+
+abbrev pub why-build : Call
+why-build = record { lifetimes = 0; params = why-build-kinds.ps; returns = why-build-kinds.r; asks = why-build-reads.Asked; promise = why-build-reads.Post; asks-nothing = λ κs a. tt }
+
 -- ---- the text of the matrices
 
 abbrev pub write-matrices : Call
@@ -232,6 +251,9 @@ desk-write-matrices = record { lifetimes = 2; params = desk-write-matrices-kinds
 
 abbrev pub desk-read-matrices : Call
 desk-read-matrices = record { lifetimes = 1; params = desk-read-matrices-kinds.ps; returns = desk-read-matrices-kinds.r; asks = desk-read-matrices-reads.Asked; promise = desk-read-matrices-reads.Post; asks-nothing = λ κs a. tt }
+
+abbrev pub desk-why : Call
+desk-why = record { lifetimes = 1; params = desk-why-kinds.ps; returns = desk-why-kinds.r; asks = desk-why-reads.Asked; promise = desk-why-reads.Post; asks-nothing = λ κs a. tt }
 
 abbrev pub desk-search : Call
 desk-search = record { lifetimes = 0; params = desk-search-kinds.ps; returns = desk-search-kinds.r; asks = desk-search-reads.Asked; promise = desk-search-reads.Post; asks-nothing = λ κs a. tt }

@@ -1,12 +1,12 @@
 -- Demand 1 (document 01, "Strength of each call"): the promise of a public call determines its result and the final state of all it was
--- lent. For each of the seventeen calls two theorems over the promise as the checker itself reads it, for all arguments:
+-- lent. For each of the twenty calls two theorems over the promise as the checker itself reads it, for all arguments:
 --
 --   ..-is           a run returns the call's answer, as a function of its arguments, and leaves in lent memory what the same function says
 --   ..-determined   any two results, and any two final states of lent memory, that the promise permits are equal
 --
--- So whatever `Demand2`, `Demand3`, `Division` and `Matrices` say of an answer they say of the call. In order: check, multiply, square,
--- trace; build, read; to_polynomial, to_normal, times, inverse, quotient; list_to_polynomial, list_to_normal; write_matrices, read_matrices;
--- search; listing. What is refused: `Refused`.
+-- So whatever `Demand2`, `Demand3`, `Division`, `Matrices` and `Causes` say of an answer they say of the call. In order: check, multiply,
+-- square, trace; build, read; why, why_check, why_build; to_polynomial, to_normal, times, inverse, quotient; list_to_polynomial,
+-- list_to_normal; write_matrices, read_matrices; search; listing. What is refused: `Refused`.
 -- Assumes nothing.
 use mathlib.Core.Path.{_≡_, sym, _∙_}
 use mathlib.Core.List.{_++_}
@@ -14,10 +14,11 @@ use lib.ListN.{length, drop}
 use denote.Ref.{now}
 use Rattle.field.specs.Answers.{checkAnswer, multiplyAnswer, squareAnswer, traceAnswer}
 use Rattle.sheet.specs.Answers.{buildAnswer, builtBuffer, readAnswer, polynomialAnswer, normalAnswer, timesAnswer, inverseAnswer, quotientAnswer, polynomialListAnswer, polynomialList, normalListAnswer, normalList}
+use Rattle.causes.specs.Causes.{whyAnswer, whyCheckAnswer, whyBuildAnswer}
 use Rattle.matrices.specs.Answers.{writeTextAnswer, writtenText, readTextAnswer}
 use Rattle.search.specs.Answers.{searchAnswer}
 use Rattle.listing.specs.Text.{listingOf}
-use Rattle.promises.specs.Calls.{Run, Determined, DeterminedWith, check, multiply, square, trace, build, read, to-polynomial, to-normal, times, inverse, quotient, list-to-polynomial, list-to-normal, write-matrices, read-matrices, search, listing}
+use Rattle.promises.specs.Calls.{Run, Determined, DeterminedWith, check, multiply, square, trace, build, read, why, why-check, why-build, to-polynomial, to-normal, times, inverse, quotient, list-to-polynomial, list-to-normal, write-matrices, read-matrices, search, listing}
 
 -- ---- the field calls
 
@@ -60,6 +61,26 @@ read-is c = c .kept .0
 
 pub read-determined : Determined read
 read-determined κs a x y e e′ p q = p .0 ∙ sym (q .0)
+
+-- ---- causes
+
+pub why-is : (c : Run why) → c .result ≡ whyAnswer (now (c .args .0))
+why-is c = c .kept
+
+pub why-determined : Determined why
+why-determined κs a x y e e′ p q = p ∙ sym q
+
+pub why-check-is : (c : Run why-check) → c .result ≡ whyCheckAnswer (c .args .0)
+why-check-is c = c .kept
+
+pub why-check-determined : Determined why-check
+why-check-determined κs a x y e e′ p q = p ∙ sym q
+
+pub why-build-is : (c : Run why-build) → c .result ≡ whyBuildAnswer (c .args .0) (c .args .1 .0)
+why-build-is c = c .kept
+
+pub why-build-determined : Determined why-build
+why-build-determined κs a x y e e′ p q = p ∙ sym q
 
 -- ---- single values through a sheet
 

@@ -6,11 +6,12 @@ use lib.ListN.{length}
 use denote.Ref.{now}
 use Rattle.field.specs.Answers.{checkReport, multiplyReport, squareReport, traceReport}
 use Rattle.sheet.specs.Answers.{buildReport, builtBuffer, readReport, polynomialReport, normalReport, timesReport, inverseReport, quotientReport, polynomialListReport, polynomialList, normalListReport, normalList}
+use Rattle.causes.specs.Causes.{causeReport, whyAnswer}
 use Rattle.matrices.specs.Answers.{writeTextReport, writtenText, readTextReport}
 use Rattle.search.specs.Answers.{searchAnswer, searchReport}
-use Rattle.capi.specs.Answers.{deskValue, deskIssued, deskFound, deskWord, foundFlag}
+use Rattle.capi.specs.Answers.{deskValue, deskIssued, deskFound, deskCause, deskWord, foundFlag}
 use Rattle.words.specs.Notation.{numberOf, polynomialOf}
-use Rattle.promises.specs.Calls.{Run, Determined, DeterminedWith, desk-check, desk-multiply, desk-square, desk-trace, desk-build, desk-read, desk-to-polynomial, desk-to-normal, desk-times, desk-inverse, desk-quotient, desk-list-to-polynomial, desk-list-to-normal, desk-write-matrices, desk-read-matrices, desk-search, desk-number-of, desk-polynomial-of, number, polynomial}
+use Rattle.promises.specs.Calls.{Run, Determined, DeterminedWith, desk-check, desk-multiply, desk-square, desk-trace, desk-build, desk-read, desk-why, desk-to-polynomial, desk-to-normal, desk-times, desk-inverse, desk-quotient, desk-list-to-polynomial, desk-list-to-normal, desk-write-matrices, desk-read-matrices, desk-search, desk-number-of, desk-polynomial-of, number, polynomial}
 
 -- ---- the field calls
 
@@ -52,6 +53,12 @@ desk-read-is c = c .kept
 
 pub desk-read-determined : Determined desk-read
 desk-read-determined κs a x y e e′ p q = p ∙ sym q
+
+pub desk-why-is : (c : Run desk-why) → c .result ≡ deskCause (causeReport (whyAnswer (now (c .args .0))))
+desk-why-is c = c .kept
+
+pub desk-why-determined : Determined desk-why
+desk-why-determined κs a x y e e′ p q = p ∙ sym q
 
 pub desk-to-polynomial-is : (c : Run desk-to-polynomial) → c .result ≡ deskValue (polynomialReport (now (c .args .0)) (c .args .1 .0))
 desk-to-polynomial-is c = c .kept

@@ -1,6 +1,7 @@
 -- The demands on the desk: each theorem is a short citation of laws proved in the crates above.
 pub mod Astray
 pub mod Calls
+pub mod Causes
 pub mod Demand1
 pub mod Demand2
 pub mod Demand3
