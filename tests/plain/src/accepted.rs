@@ -2,16 +2,16 @@
 //! of the refusal table.
 //!
 //! [`field_degree`] is condition 1, [`has_divisor`] condition 2,
-//! [`squaring_returns`] condition 3.
+//! [`x_became`] condition 3.
 //!
 //! Condition 2 is decided by Berlekamp's matrix. The polynomials g with
-//! g^2 = g modulo f form a space of 2^r members, r the number of different
-//! irreducible factors of f. So f is a power of one irreducible exactly when
-//! r = 1, and the power is the first exactly when f has no factor in common
+//! g^2 = g modulo f form a space of 2^r members, [`fixed_space`], r the number of
+//! different irreducible factors of f. So f is a power of one irreducible exactly
+//! when r = 1, and the power is the first exactly when f has no factor in common
 //! with its derivative. The tests hold this against trial division.
 
 use crate::answers::{refuse_if, Refusal};
-use crate::polynomial::{common_divisor, degree, derivative, product, squared};
+use crate::polynomial::{common_divisor, degree, derivative, squared};
 use crate::MAX_DEGREE;
 
 /// The degree n of f, where it is 2 to [`MAX_DEGREE`]; refusal 1
@@ -23,44 +23,48 @@ pub fn field_degree(f: u64) -> Result<u32, Refusal> {
     }
 }
 
-/// Whether some polynomial of degree 1 to n-1 divides f, n at least 2.
+/// Whether some polynomial of degree 1 to n-1 divides f, n at least 1.
 pub fn has_divisor(f: u64) -> bool {
-    common_divisor(f, derivative(f)) != 1 || fixed_dimension(f) != 1
+    common_divisor(f, derivative(f)) != 1 || fixed_space(f).len() != 1
 }
 
-/// The dimension of the space of all g below f with g^2 = g modulo f.
+/// A basis of the space of all g below f with g^2 = g modulo f.
 ///
-/// Squaring is linear, so it is n less the rank of the vectors
-/// (x^i)^2 + x^i.
-fn fixed_dimension(f: u64) -> usize {
-    let n = degree(f).expect("f is not zero") as usize;
-    // kept[d] is a vector of degree d, or 0 where there is none yet.
-    let mut kept = [0u64; 64];
-    let mut power = 1;
-    for _ in 0..n {
-        let mut vector = squared(f, power) ^ power;
-        while let Some(d) = degree(vector) {
-            if kept[d as usize] == 0 {
-                kept[d as usize] = vector;
+/// Squaring is linear, so a sum of powers x^i is in the space exactly where the
+/// vectors (x^i)^2 + x^i of the same i sum to zero.
+pub fn fixed_space(f: u64) -> Vec<u64> {
+    let n = degree(f).expect("f is not zero");
+    // kept[d] is a vector of degree d beside the powers that it is made of, or
+    // zeros where there is none yet.
+    let mut kept = [(0u64, 0u64); 64];
+    let mut fixed = Vec::new();
+    for power in (0..n).map(|i| 1 << i) {
+        let (mut vector, mut powers) = (squared(f, power) ^ power, power);
+        while let Some(d) = degree(vector).map(|d| d as usize) {
+            if kept[d] == (0, 0) {
+                kept[d] = (vector, powers);
                 break;
             }
-            vector ^= kept[d as usize];
+            vector ^= kept[d].0;
+            powers ^= kept[d].1;
         }
-        power = product(f, power, 2);
+        if vector == 0 {
+            fixed.push(powers);
+        }
     }
-    n - kept.iter().filter(|vector| **vector != 0).count()
+    fixed
 }
 
-/// Whether x squared n times in a row leaves x modulo f, n at least 2.
-pub fn squaring_returns(f: u64) -> bool {
+/// What x becomes modulo f where it is squared n times in a row, n at least 2.
+pub fn x_became(f: u64) -> u64 {
     let n = degree(f).expect("f is not zero");
-    (0..n).fold(2, |power, _| squared(f, power)) == 2
+    (0..n).fold(2, |power, _| squared(f, power))
 }
 
 /// The conditions 2 and 3, for an f that passed 1.
 pub fn refuse_unaccepted(f: u64) -> Result<(), Refusal> {
     refuse_if(has_divisor(f), 2)?;
-    refuse_if(!squaring_returns(f), 3)
+    refuse_if(x_became(f) != 2, 3)
 }
 
 #[cfg(test)]
@@ -104,7 +108,7 @@ mod tests {
     #[test]
     fn no_polynomial_earns_refusal_3() {
         for f in 4..1 << 13 {
-            assert!(has_divisor(f) || squaring_returns(f), "f = {}", f);
+            assert!(has_divisor(f) || x_became(f) == 2, "f = {}", f);
         }
     }
 }

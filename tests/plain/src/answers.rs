@@ -1,8 +1,9 @@
 //! What the calls answer: a number and a place of document 01's refusal table,
 //! and values that are zero on a refusal.
 //!
-//! [`Refusal`] is the inner form, carried by `?`; [`Value`], [`Issued`] and
-//! [`Found`] are the answers themselves, flat, one field for each number.
+//! [`Refusal`] is the inner form, carried by `?`; [`Value`], [`Issued`],
+//! [`Cause`] and [`Found`] are the answers themselves, flat, one field for each
+//! number.
 
 /// A line of the refusal table with its place.
 #[derive(Clone, Copy, Debug, PartialEq, Eq)]
@@ -63,6 +64,24 @@ pub struct Issued {
     pub grade: u64,
 }
 
+/// The answer of why reading refuses a sheet; all zero where it accepts it.
+#[derive(Clone, Copy, Debug, Default, PartialEq, Eq)]
+pub struct Cause {
+    /// The refusal's number, 0 where reading accepts the sheet.
+    pub number: u64,
+    /// The refusal's place.
+    pub place: u64,
+    /// The number that 2, 3 and 5 have for a cause, else 0.
+    pub cause: u64,
+    /// 1, 2 or 3 for the conjugate, inverse or table row that 10 speaks of,
+    /// else 0.
+    pub field: u64,
+    /// The number that stands there.
+    pub stored: u64,
+    /// The right one.
+    pub right: u64,
+}
+
 /// The answer of a search.
 #[derive(Clone, Copy, Debug, Default, PartialEq, Eq)]
 pub struct Found {
@@ -103,6 +122,16 @@ impl From<Result<Issued, Refusal>> for Issued {
             place: refusal.place,
             ..Issued::default()
         })
+    }
+}
+
+impl From<Refusal> for Cause {
+    fn from(refusal: Refusal) -> Cause {
+        Cause {
+            number: refusal.number,
+            place: refusal.place,
+            ..Cause::default()
+        }
     }
 }
 

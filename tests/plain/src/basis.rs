@@ -22,18 +22,20 @@ pub struct Coordinates {
 }
 
 impl Coordinates {
-    /// Prepares the elimination; `None` where a non-empty set of the
-    /// conjugates sums to zero.
-    pub fn new(conjugates: &[u64]) -> Option<Coordinates> {
+    /// Prepares the elimination. Where a non-empty set of the conjugates sums to
+    /// zero, the error is the smallest number whose set bits select such a set.
+    /// Its highest bit is the first conjugate that is a sum of earlier ones; no
+    /// set of the earlier ones sums to zero, so that there is one such sum alone.
+    pub fn new(conjugates: &[u64]) -> Result<Coordinates, u64> {
         let mut solver = Coordinates {
             by_degree: vec![(0, 0); conjugates.len()],
         };
         for (i, conjugate) in conjugates.iter().enumerate() {
             let (rest, picked) = solver.reduce(*conjugate, 1 << i);
-            let lead = degree(rest)? as usize;
+            let lead = degree(rest).ok_or(picked)? as usize;
             solver.by_degree[lead] = (rest, picked);
         }
-        Some(solver)
+        Ok(solver)
     }
 
     /// Takes kept sums away from the highest power down, until a leading power
@@ -71,7 +73,7 @@ impl Basis {
     /// The basis of an element below 2^n; `None` where it is not normal.
     pub fn new(f: u64, element: u64) -> Option<Basis> {
         let conjugates = conjugates(f, element);
-        let coordinates = Coordinates::new(&conjugates)?;
+        let coordinates = Coordinates::new(&conjugates).ok()?;
         let n = conjugates.len();
         let inverses = (0..n).map(|i| coordinates.of(1 << i)).collect();
         let table = conjugates
@@ -187,8 +189,9 @@ mod tests {
             let n = degree(f).unwrap();
             for a in 0..1 << n {
                 let c = conjugates(f, a);
-                let dependent = (1..1 << n).any(|set| sum_of_picked(&c, set) == 0);
-                assert_eq!(Basis::new(f, a).is_none(), dependent, "{} {}", f, a);
+                let smallest = (1..1 << n).find(|set| sum_of_picked(&c, *set) == 0);
+                assert_eq!(Coordinates::new(&c).err(), smallest, "{} {}", f, a);
+                assert_eq!(Basis::new(f, a).is_none(), smallest.is_some());
             }
         }
     }

@@ -1,8 +1,8 @@
 //! Polynomials over the two-element field as 64-bit numbers, bit i the
 //! coefficient of x^i (document 01, "Two notations").
 //!
-//! [`degree`], [`remainder`], [`common_divisor`], [`derivative`]; then
-//! [`product`] and [`squared`] modulo f.
+//! [`degree`], [`remainder`], [`quotient`], [`common_divisor`], [`derivative`],
+//! [`square_root`]; then [`product`] and [`squared`] modulo f.
 
 /// The degree; `None` for the zero polynomial.
 pub fn degree(a: u64) -> Option<u32> {
@@ -21,6 +21,20 @@ pub fn remainder(mut a: u64, b: u64) -> u64 {
     a
 }
 
+/// How often `b`, which is not zero, goes into `a`.
+pub fn quotient(mut a: u64, b: u64) -> u64 {
+    let below = degree(b).expect("a divisor is not zero");
+    let mut sum = 0;
+    while let Some(above) = degree(a) {
+        if above < below {
+            break;
+        }
+        a ^= b << (above - below);
+        sum |= 1 << (above - below);
+    }
+    sum
+}
+
 /// The greatest common divisor, by Euclid.
 pub fn common_divisor(mut a: u64, mut b: u64) -> u64 {
     while b != 0 {
@@ -35,6 +49,11 @@ pub fn common_divisor(mut a: u64, mut b: u64) -> u64 {
 pub fn derivative(a: u64) -> u64 {
     const ODD: u64 = 0xaaaa_aaaa_aaaa_aaaa;
     (a & ODD) >> 1
+}
+
+/// The polynomial whose square is `a`, which has even powers alone.
+pub fn square_root(a: u64) -> u64 {
+    (0..32).fold(0, |sum, i| sum | (a >> (2 * i) & 1) << i)
 }
 
 /// `a` times `b` modulo `f`, both of smaller degree than `f`.
@@ -89,6 +108,25 @@ mod tests {
                     assert_eq!(product(f, a, b), remainder(long_product(a, b), f));
                 }
             }
+        }
+    }
+
+    #[test]
+    fn quotient_and_remainder_make_the_dividend() {
+        for a in 0..1 << 9 {
+            for b in 1..1 << 6 {
+                let back = long_product(quotient(a, b), b) ^ remainder(a, b);
+                assert_eq!(back, a, "{} over {}", a, b);
+                assert!(degree(remainder(a, b)) < degree(b));
+            }
+        }
+        assert_eq!(quotient(u64::MAX, 1), u64::MAX);
+    }
+
+    #[test]
+    fn square_root_of_a_square() {
+        for a in [0, 1, 2, 19, 0xffff_ffff, 0x9e37_79b9] {
+            assert_eq!(square_root(long_product(a, a)), a);
         }
     }
 
