@@ -52,11 +52,11 @@
  *
  * In a call's order "the shape" stands for: 7; then, for each record from 0 upward, 8 before 9.
  *
- * A call that is done has place 0. A refusal has zeros in all but number and place, and all memory
- * that the call borrowed is unchanged.
+ * A call that is done has place 0. A refusal has zeros in all but number and place; desk_why alone
+ * adds the cause. All memory that the call borrowed is then unchanged.
  *
- * Besides the sixteen calls, desk_number_of and desk_polynomial_of say what a typed word means, as
- * the command line reads it. They refuse nothing: a word is clear or unclear.
+ * Besides the seventeen calls, desk_number_of and desk_polynomial_of say what a typed word means,
+ * as the command line reads it. They refuse nothing: a word is clear or unclear.
  *
  * What the caller must do:
  *   - A pointer is not null, not even at length 0. Nothing in Rattle can test a pointer, and the
@@ -84,13 +84,13 @@
 #include <stdint.h>
 
 /* The version of the product, which the archive, the command line and the Rust crate share. */
-#define SABRENTUGLIO_VERSION "2.1.0"
+#define SABRENTUGLIO_VERSION "3.0.0"
 
 /*
  * The bytes of stack that a call may take, rounded up from a measurement, bindings/c/stack.c: no
  * call takes more than the first, and no call but desk_search more than the second. Measured were
  * 67 KiB for desk_search, 14 for the two that convert a list and for desk_times, desk_inverse and
- * desk_quotient, 11 for desk_write_matrices, 9 for desk_read, 8 for desk_build and
+ * desk_quotient, 12 for desk_why, 11 for desk_write_matrices, 9 for desk_read, 8 for desk_build and
  * desk_read_matrices and less than 1 for each of the others. The amount does not grow with a range,
  * a list or a text. It includes memcpy and memset of the C library, and not the dynamic linker,
  * which may look them up at the first call.
@@ -130,6 +130,31 @@ typedef struct desk_issued {
     uint64_t complexity;
     uint64_t grade;
 } desk_issued;
+
+/*
+ * The result of desk_why: number and place as desk_read returns them, and the cause.
+ *
+ *    number    the cause
+ *    0         none: desk_read accepts the sheet
+ *    2         cause: the smallest polynomial, as a number, that divides f and has degree 1 or more
+ *    3         cause: what x became, that is x squared n times in a row modulo f
+ *    5         cause: the smallest number above 0 whose set bits i pick conjugates c_i of the
+ *              element that sum to zero; for the element 0 it is 1
+ *    7, 8, 9   none but the place
+ *    10        field: the first row of record `place`, in byte order, that differs from the one
+ *              rebuilt, 1 for the conjugate row, 2 for the inverse row, 3 for the table row;
+ *              stored: the number that stands there; right: the number rebuilt
+ *
+ * Members that the table does not name for a number are 0.
+ */
+typedef struct desk_cause {
+    uint64_t number;
+    uint64_t place;
+    uint64_t cause;
+    uint64_t field;
+    uint64_t stored;
+    uint64_t right;
+} desk_cause;
 
 /*
  * The result of desk_search, one of three:
@@ -196,6 +221,16 @@ desk_issued desk_build(uint64_t f, uint64_t element, uint8_t *buffer, size_t len
  * record 0, 10.
  */
 desk_issued desk_read(const uint8_t *sheet, size_t length);
+
+/*
+ * Returns why desk_read refuses a sheet: its number and place, and the cause of 2, 3, 5 and 10. The
+ * lister prints the cause on its second line: one number for 2, 3 and 5; for 10 the record, the
+ * word conjugate, inverse or table, the number stored and the right one. All is 0 if desk_read
+ * accepts the sheet. Writes nothing.
+ * Refusals in order: the shape, 2 and 3 for the sheet's polynomial, 5 for the conjugate of its
+ * record 0, 10.
+ */
+desk_cause desk_why(const uint8_t *sheet, size_t length);
 
 /*
  * Returns the element that has these normal coordinates: the sum (exclusive or) of the sheet's

@@ -34,6 +34,7 @@ static void trace(void) { number = desk_trace(f, a).number; }
 static void search(void) { number = desk_search(f, a, b).number; }
 static void build(void) { number = desk_build(f, a, sheet, length).number; }
 static void read(void) { number = desk_read(sheet, length).number; }
+static void why(void) { number = desk_why(sheet, length).number; }
 static void to_polynomial(void) { number = desk_to_polynomial(sheet, length, a).number; }
 static void to_normal(void) { number = desk_to_normal(sheet, length, a).number; }
 static void times(void) { number = desk_times(sheet, length, a, b).number; }
@@ -46,8 +47,8 @@ static void read_matrices(void) { number = desk_read_matrices(f, a, text, text_l
 static void number_of(void) { number = !desk_number_of((const uint8_t *)word, strlen(word)).clear; }
 static void polynomial_of(void) { number = !desk_polynomial_of((const uint8_t *)word, strlen(word)).clear; }
 
-enum { CHECK, MULTIPLY, SQUARE, TRACE, SEARCH, BUILD, READ, TO_POLYNOMIAL, TO_NORMAL, TIMES, INVERSE, QUOTIENT, LIST_TO_POLYNOMIAL,
-       LIST_TO_NORMAL, WRITE_MATRICES, READ_MATRICES, NUMBER_OF, POLYNOMIAL_OF, CALLS };
+enum { CHECK, MULTIPLY, SQUARE, TRACE, SEARCH, BUILD, READ, WHY, TO_POLYNOMIAL, TO_NORMAL, TIMES, INVERSE, QUOTIENT,
+       LIST_TO_POLYNOMIAL, LIST_TO_NORMAL, WRITE_MATRICES, READ_MATRICES, NUMBER_OF, POLYNOMIAL_OF, CALLS };
 
 static struct {
     const char *name;
@@ -62,6 +63,7 @@ static struct {
     {"desk_search", search, 0, 0, 0},
     {"desk_build", build, 0, 0, 0},
     {"desk_read", read, 0, 0, 0},
+    {"desk_why", why, 0, 0, 0},
     {"desk_to_polynomial", to_polynomial, 0, 0, 0},
     {"desk_to_normal", to_normal, 0, 0, 0},
     {"desk_times", times, 0, 0, 0},
@@ -139,6 +141,26 @@ static void measure_text(int degree) {
     measure(WRITE_MATRICES);
 }
 
+/* The calls that compare a sheet with the one rebuilt. */
+static void measure_bad_sheet(void) {
+    measure(READ);
+    measure(WHY);
+    measure(WRITE_MATRICES);
+}
+
+/* A sheet of f with right heads and rows of zeros: refused for a divisor of f, or for the element 0. */
+static void measure_heads(int degree) {
+    uint64_t tail = f - ((uint64_t)1 << degree);
+    memset(sheet, 0, SHEET);
+    length = 32 * (size_t)degree;
+    for (size_t i = 0; i < (size_t)degree; i++) {
+        sheet[32 * i] = (uint8_t)degree;
+        sheet[32 * i + 1] = (uint8_t)i;
+        for (size_t k = 0; k < 6; k++) sheet[32 * i + 2 + k] = (uint8_t)(tail >> (8 * k));
+    }
+    measure_bad_sheet();
+}
+
 /* The calls on the sheet of f and a normal element; the list has the most values. */
 static void measure_sheet(int degree, uint64_t element) {
     uint64_t size = (uint64_t)1 << degree;
@@ -147,6 +169,7 @@ static void measure_sheet(int degree, uint64_t element) {
     measure(BUILD);
     length = 32 * (size_t)degree;
     measure(READ);
+    measure(WHY);
     measure_text(degree);
     b = size - 1;
     for (int call = TO_POLYNOMIAL; call <= QUOTIENT; call++) measure(call);
@@ -162,11 +185,11 @@ static void measure_sheet(int degree, uint64_t element) {
     a = b = 0;
     for (int call = INVERSE; call <= QUOTIENT; call++) measure(call);
     sheet[length - 8] ^= 1;
-    measure(READ);
-    measure(WRITE_MATRICES);
+    measure_bad_sheet();
     sheet[length - 1] ^= 1;
-    measure(READ);
-    measure(WRITE_MATRICES);
+    measure_bad_sheet();
+    sheet[length - 31] ^= 1;
+    measure_bad_sheet();
     length--;
     for (int call = READ; call <= WRITE_MATRICES; call++) measure(call);
 }
@@ -186,8 +209,36 @@ static uint64_t normal_element(int degree) {
     return element;
 }
 
+/* The polynomial of the degree that is accepted first; x for degree 1. */
+static uint64_t first_accepted(int degree) {
+    f = (uint64_t)1 << degree;
+    if (degree > 1) next_accepted();
+    return f;
+}
+
+static uint64_t product(uint64_t left, uint64_t right) {
+    uint64_t sum = 0;
+    for (int i = 0; i <= LIMIT; i++) {
+        if (right >> i & 1) sum ^= left << i;
+    }
+    return sum;
+}
+
+/* Polynomials that others divide: products of two that are accepted, squares among them; the first and the last even number. */
+static void measure_divided(int degree) {
+    for (int part = 1; part <= degree / 2; part++) {
+        f = product(first_accepted(part), first_accepted(degree - part));
+        measure_heads(degree);
+    }
+    f = (uint64_t)1 << degree;
+    measure_heads(degree);
+    f = ((uint64_t)2 << degree) - 2;
+    measure_heads(degree);
+}
+
 static void measure_field(int degree) {
     measure_numbers(degree);
+    measure_heads(degree);
     a = 0;
     length = SHEET;
     measure(BUILD);
@@ -227,6 +278,7 @@ static int report(void) {
 
 int main(void) {
     for (int degree = 2; degree <= LIMIT; degree++) {
+        measure_divided(degree);
         f = (uint64_t)1 << degree;
         measure_numbers(degree);
         next_accepted();

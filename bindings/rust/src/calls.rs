@@ -1,5 +1,6 @@
 //! The calls one to one, with results; buffers and lists are lent. The two on
-//! the text of all matrices are in `matrices`.
+//! the text of all matrices are in `matrices`, the one that names the cause of a
+//! refusal is in `why`.
 //!
 //! Each names its refusals in the order in which they are tested.
 
@@ -80,6 +81,7 @@ pub fn build(f: u64, element: u64, buffer: &mut [u8]) -> Result<Summary, Refusal
 }
 
 /// Reads a sheet: done exactly where [`build`] writes these bytes.
+/// [`why`](fn@crate::why) has the cause of a refusal.
 ///
 /// Refuses 7, then 8 and 9 record by record, 2, 3, 5, 10.
 ///

@@ -10,18 +10,19 @@
 //! project's build description, document 01, and the requests of document 02
 //! that are built; this crate only hands calls over.
 //! [`Sheet`] owns a sheet that the desk built or accepted. The functions are
-//! the sixteen calls one to one, over slices that you lend: [`check`],
-//! [`multiply`], [`square`], [`trace`], [`build`], [`read`], [`to_polynomial`],
-//! [`to_normal`], [`list_to_polynomial`], [`list_to_normal`], [`times`],
-//! [`inverse`], [`quotient`], [`write_matrices`], [`read_matrices`], [`search`].
-//! [`raw`] has the same with the answers as flat numbers. [`Polynomial`] parses
-//! what a designer types, as the command line does.
+//! the seventeen calls one to one, over slices that you lend: [`check`],
+//! [`multiply`], [`square`], [`trace`], [`build`], [`read`], [`why`](fn@why),
+//! [`to_polynomial`], [`to_normal`], [`list_to_polynomial`], [`list_to_normal`],
+//! [`times`], [`inverse`], [`quotient`], [`write_matrices`], [`read_matrices`],
+//! [`search`]. [`raw`] has the same with the answers as flat numbers.
+//! [`Polynomial`] parses what a designer types, as the command line does.
 //!
 //! Every number is a legal argument. What the desk does not do it refuses, with
 //! a [`Refusal`], and then every buffer, list and text stays as it came.
 //!
 //! Refusals and grades carry the documents' numbers. [`Reason`] and [`Grade`]
-//! have the names of those that this version knows.
+//! have the names of those that this version knows. [`Cause`] says why a sheet is
+//! refused: by which divisor of f, by which conjugates, or by which number.
 //!
 //! ```
 //! use sabrentuglio::{multiply, Reason, Sheet};
@@ -48,6 +49,7 @@ pub mod raw;
 mod refusal;
 mod rows;
 mod sheet;
+mod why;
 mod words;
 
 pub use answer::{Best, Grade, Summary};
@@ -59,6 +61,7 @@ pub use matrices::{matrices_size, read_matrices, write_matrices};
 pub use refusal::{Reason, Refusal, UnknownNumber};
 pub use rows::{Row, Rows};
 pub use sheet::Sheet;
+pub use why::{why, Cause, RecordField};
 pub use words::{number_of, polynomial_of, Polynomial, UnclearWord};
 
 /// The version of the crate, which is that of the whole product.

@@ -43,6 +43,26 @@ pub struct Issued {
     pub grade: u64,
 }
 
+/// Why reading refuses a sheet; all zero where it accepts it.
+#[repr(C)]
+#[derive(Clone, Copy, Debug, Default, PartialEq, Eq)]
+pub struct Cause {
+    /// The number in document 01's refusal table, 0 where reading accepts the
+    /// sheet.
+    pub number: u64,
+    /// The place that goes with the number.
+    pub place: u64,
+    /// For 2 the smallest divisor of f, for 3 what x became, for 5 the smallest
+    /// number whose set bits select conjugates that sum to zero; else 0.
+    pub cause: u64,
+    /// For 10 the field that differs: 1 conjugate, 2 inverse, 3 table; else 0.
+    pub field: u64,
+    /// The number that this field holds.
+    pub stored: u64,
+    /// The number that is right there.
+    pub right: u64,
+}
+
 /// The answer of a search; on a refusal and where nothing was found the last
 /// five are zero.
 #[repr(C)]
@@ -79,6 +99,7 @@ extern "C" {
     fn desk_trace(f: u64, a: u64) -> Value;
     fn desk_build(f: u64, element: u64, buffer: *mut u8, length: usize) -> Issued;
     fn desk_read(sheet: *const u8, length: usize) -> Issued;
+    fn desk_why(sheet: *const u8, length: usize) -> Cause;
     fn desk_to_polynomial(sheet: *const u8, length: usize, coordinates: u64) -> Value;
     fn desk_to_normal(sheet: *const u8, length: usize, element: u64) -> Value;
     fn desk_list_to_polynomial(
@@ -148,6 +169,12 @@ pub fn read(sheet: &[u8]) -> Issued {
     // SAFETY: the sheet is lent for reading over its whole length. An empty
     // one is a dangling pointer, which is not followed at length 0.
     unsafe { desk_read(sheet.as_ptr(), sheet.len()) }
+}
+
+/// `desk_why`: the cause of reading's refusal.
+pub fn why(sheet: &[u8]) -> Cause {
+    // SAFETY: as in `read`.
+    unsafe { desk_why(sheet.as_ptr(), sheet.len()) }
 }
 
 /// `desk_to_polynomial`: the element of normal coordinates.

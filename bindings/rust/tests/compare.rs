@@ -6,8 +6,9 @@
 //! met. The seed is printed; DESK_SEED sets it, so that a run can be repeated.
 //!
 //! In `compare/`: `random` draws numbers, `fields` finds polynomials and
-//! sheets, `damage` spoils sheets and `texts` texts, `lent` watches lent memory,
-//! `pair` asks both sides, `tally` counts; the others are the groups.
+//! sheets, `factors` makes polynomials of known factors, `damage` spoils sheets
+//! and `texts` texts, `lent` watches lent memory, `pair` asks both sides, `tally`
+//! counts; the others are the groups.
 
 #[path = "compare/building.rs"]
 mod building;
@@ -17,6 +18,8 @@ mod causes;
 mod damage;
 #[path = "compare/dividing.rs"]
 mod dividing;
+#[path = "compare/factors.rs"]
+mod factors;
 #[path = "compare/fields.rs"]
 mod fields;
 #[path = "compare/lengths.rs"]
@@ -43,6 +46,8 @@ mod searching;
 mod tally;
 #[path = "compare/texts.rs"]
 mod texts;
+#[path = "compare/why.rs"]
+mod why;
 
 use fields::Fields;
 use pair::Pair;
@@ -54,7 +59,7 @@ use std::time::Instant;
 /// The name of a group and what runs it.
 type Group = (&'static str, fn(&mut Pair, &mut Random, &Fields));
 
-const GROUPS: [Group; 10] = [
+const GROUPS: [Group; 11] = [
     ("polynomials", polynomials::run),
     ("building", building::run),
     ("reading", reading::run),
@@ -65,6 +70,7 @@ const GROUPS: [Group; 10] = [
     ("results", results::run),
     ("dividing", dividing::run),
     ("matrices", matrices::run),
+    ("why", why::run),
 ];
 
 /// The seed of a run that names none: the same run each time.

@@ -76,7 +76,7 @@ fn any_sheet(random: &mut Random, fields: &Fields) -> (Vec<u8>, u32) {
 fn on_sheets(pair: &mut Pair, random: &mut Random, fields: &Fields) {
     let (sheet, n) = any_sheet(random, fields);
     let (a, b) = (random.operand(n), random.operand(n));
-    match random.below(8) {
+    match random.below(9) {
         0 => pair.read(&sheet),
         1 => pair.to_polynomial(&sheet, a),
         2 => pair.to_normal(&sheet, a),
@@ -84,6 +84,9 @@ fn on_sheets(pair: &mut Pair, random: &mut Random, fields: &Fields) {
         4 => pair.inverse(&sheet, a),
         5 => pair.quotient(&sheet, a, b),
         6 => {
+            pair.why(&sheet);
+        }
+        7 => {
             let room = random.index(2 * matrices_size(n as usize));
             pair.write_matrices(&sheet, &vec![random.number() as u8; room]);
         }

@@ -3,6 +3,7 @@
 //! A column of a record is named by its first byte and its length, as in
 //! document 01's table of the sheet file.
 
+use crate::fields::Field;
 use crate::random::Random;
 use sabrentuglio::RECORD_LENGTH;
 
@@ -44,6 +45,9 @@ pub const COLUMNS: [Column; 6] = [
 /// The column with f.
 pub const TAIL: Column = COLUMNS[2];
 
+/// The columns with the three rows, in byte order.
+pub const ROWS: [Column; 3] = [COLUMNS[3], COLUMNS[4], COLUMNS[5]];
+
 /// The column with the conjugate row.
 pub const CONJUGATE: Column = COLUMNS[3];
 
@@ -55,6 +59,14 @@ pub fn put(sheet: &mut [u8], record: usize, column: Column, number: u64) {
     let start = RECORD_LENGTH * record + column.first;
     let bytes = number.to_le_bytes();
     sheet[start..start + column.length].copy_from_slice(&bytes[..column.length]);
+}
+
+/// The number in a column of a record.
+pub fn number_in(sheet: &[u8], record: usize, column: Column) -> u64 {
+    let start = RECORD_LENGTH * record + column.first;
+    let mut bytes = [0; 8];
+    bytes[..column.length].copy_from_slice(&sheet[start..start + column.length]);
+    u64::from_le_bytes(bytes)
 }
 
 /// Turns one bit of a sheet over.
@@ -105,8 +117,8 @@ pub fn invented(n: u32, tail: u64, random: &mut Random) -> Vec<u8> {
     renumber(&mut sheet);
     refound(&mut sheet, tail);
     for i in 0..n as usize {
-        for column in &COLUMNS[3..] {
-            put(&mut sheet, i, *column, random.element(n));
+        for column in ROWS {
+            put(&mut sheet, i, column, random.element(n));
         }
     }
     sheet
@@ -148,10 +160,36 @@ pub fn damaged(sheet: &[u8], random: &mut Random) -> Vec<u8> {
                 enlarge(&mut sheet, record, column, count as u32, random);
             }
             _ => {
-                let column = random.pick(&COLUMNS[3..]);
+                let column = random.pick(&ROWS);
                 put(&mut sheet, record, column, random.element(count as u32));
             }
         }
     }
     sheet
+}
+
+/// Sheets that reading refuses but for a few, many for several causes.
+pub fn bad_sheets(random: &mut Random, field: &Field) -> Vec<Vec<u8>> {
+    let n = field.n;
+    let good = &field.any(random).sheet;
+    let mut sheets = rearranged(good, random);
+    sheets.extend((0..8).map(|_| damaged(good, random)));
+    let divided = random.pick(&field.divided) - (1 << n);
+    for element in [0, 1, random.element(n)] {
+        // 5 with 10 behind it, or 10 alone; then 2 before these; then 8 or 9.
+        let mut sheet = good.clone();
+        put(&mut sheet, 0, CONJUGATE, element);
+        put(&mut sheet, n as usize - 1, TABLE, random.element(n));
+        sheets.push(sheet.clone());
+        refound(&mut sheet, divided);
+        sheets.push(sheet.clone());
+        let (record, column) = (random.index(n as usize), random.pick(&COLUMNS[2..]));
+        enlarge(&mut sheet, record, column, n, random);
+        sheets.push(sheet);
+    }
+    for length in [0, RECORD_LENGTH, good.len() - RECORD_LENGTH, good.len() - 1] {
+        sheets.push(good[..length].to_vec());
+    }
+    sheets.push([&good[..], &[0]].concat());
+    sheets
 }

@@ -39,7 +39,7 @@ fn accepted(f: u64) -> bool {
 }
 
 /// The product of two polynomials that fits into 64 bits.
-fn product(a: u64, b: u64) -> u64 {
+pub fn product(a: u64, b: u64) -> u64 {
     (0..64)
         .filter(|i| b >> i & 1 == 1)
         .fold(0, |sum, i| sum ^ a << i)
@@ -50,7 +50,7 @@ fn product(a: u64, b: u64) -> u64 {
 const TRIES: usize = 10_000;
 
 /// Any accepted polynomial of degree m.
-fn any_accepted(m: u32, random: &mut Random) -> u64 {
+pub fn any_accepted(m: u32, random: &mut Random) -> u64 {
     // The desk starts at degree 2; x and x + 1 have no divisors either.
     if m == 1 {
         return 2 + random.below(2);

@@ -41,6 +41,7 @@ pub fn run(pair: &mut Pair, random: &mut Random, fields: &Fields) {
 
 fn every_call(pair: &mut Pair, random: &mut Random, sheet: &[u8]) {
     pair.read(sheet);
+    pair.why(sheet);
     pair.to_polynomial(sheet, random.element(2));
     pair.to_normal(sheet, random.operand(WIDEST));
     pair.times(sheet, random.operand(WIDEST), random.operand(WIDEST));

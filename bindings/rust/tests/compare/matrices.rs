@@ -2,7 +2,7 @@
 //! short, exact and longer; read for f and an element, right and wrong in every
 //! way, with the place that the way of spoiling it gives.
 
-use crate::damage::{damaged, enlarge, put, rearranged, refound, COLUMNS, CONJUGATE, TABLE};
+use crate::damage::bad_sheets;
 use crate::fields::{wrong_degree, Basis, Field, Fields, DEGREES};
 use crate::pair::Pair;
 use crate::random::Random;
@@ -145,32 +145,6 @@ fn causes_before_14(pair: &mut Pair, random: &mut Random, field: &Field) {
             }
         }
     }
-}
-
-/// Sheets that reading refuses but for a few, many for several causes.
-fn bad_sheets(random: &mut Random, field: &Field) -> Vec<Vec<u8>> {
-    let n = field.n;
-    let good = &field.any(random).sheet;
-    let mut sheets = rearranged(good, random);
-    sheets.extend((0..8).map(|_| damaged(good, random)));
-    let divided = random.pick(&field.divided) - (1 << n);
-    for element in [0, 1, random.element(n)] {
-        // 5 with 10 behind it, or 10 alone; then 2 before these; then 8 or 9.
-        let mut sheet = good.clone();
-        put(&mut sheet, 0, CONJUGATE, element);
-        put(&mut sheet, n as usize - 1, TABLE, random.element(n));
-        sheets.push(sheet.clone());
-        refound(&mut sheet, divided);
-        sheets.push(sheet.clone());
-        let (record, column) = (random.index(n as usize), random.pick(&COLUMNS[2..]));
-        enlarge(&mut sheet, record, column, n, random);
-        sheets.push(sheet);
-    }
-    for length in [0, RECORD_LENGTH, good.len() - RECORD_LENGTH, good.len() - 1] {
-        sheets.push(good[..length].to_vec());
-    }
-    sheets.push([&good[..], &[0]].concat());
-    sheets
 }
 
 /// A bad sheet with room for the text, and without: 6 comes last.

@@ -41,6 +41,17 @@ fn issued(answer: raw::Issued) -> plain::Issued {
     }
 }
 
+fn cause(answer: raw::Cause) -> plain::Cause {
+    plain::Cause {
+        number: answer.number,
+        place: answer.place,
+        cause: answer.cause,
+        field: answer.field,
+        stored: answer.stored,
+        right: answer.right,
+    }
+}
+
 fn found(answer: raw::Found) -> plain::Found {
     plain::Found {
         number: answer.number,
@@ -164,6 +175,19 @@ impl Pair {
         let desk = self.on_sheet(Call::Read, sheet, raw::read);
         let plain = plain::read(sheet);
         self.settle_issued(Call::Read, desk, plain, || format!("sheet {}", hex(sheet)));
+    }
+
+    /// Asks why a sheet is refused. Returns the answer of both.
+    pub fn why(&mut self, sheet: &[u8]) -> plain::Cause {
+        let desk = self.on_sheet(Call::Why, sheet, raw::why);
+        let plain = plain::why(sheet);
+        self.settle(Call::Why, plain.number, (cause(desk), plain), || {
+            format!("sheet {}", hex(sheet))
+        });
+        if plain.number == 10 {
+            self.tally.count_field(plain.field);
+        }
+        plain
     }
 
     pub fn to_polynomial(&mut self, sheet: &[u8], coordinates: u64) {

@@ -1,5 +1,5 @@
-//! Reading, converting, multiplying and dividing on sheets good and bad, and
-//! writing their texts.
+//! Reading, converting, multiplying and dividing on sheets good and bad, why they
+//! are refused, and writing their texts.
 
 use crate::damage::{
     damaged, enlarge, flip, flip_in, invented, put, rearranged, refound, renumber, COLUMNS,
@@ -33,6 +33,7 @@ pub fn run(pair: &mut Pair, random: &mut Random, fields: &Fields) {
 /// has room.
 fn ask(pair: &mut Pair, random: &mut Random, n: u32, sheet: &[u8]) {
     pair.read(sheet);
+    pair.why(sheet);
     pair.to_polynomial(sheet, random.operand(n));
     pair.to_normal(sheet, random.operand(n));
     pair.times(sheet, random.operand(n), random.operand(n));
@@ -78,6 +79,7 @@ fn every_bit(pair: &mut Pair, random: &mut Random, fields: &Fields) {
             let mut sheet = basis.sheet.clone();
             flip(&mut sheet, 8 * RECORD_LENGTH * record + bit);
             pair.read(&sheet);
+            pair.why(&sheet);
             pair.times(&sheet, random.element(WIDEST), random.element(WIDEST));
         }
     }

@@ -7,7 +7,7 @@ use crate::damage::damaged;
 use crate::fields::{Field, Fields};
 use crate::pair::Pair;
 use crate::random::Random;
-use sabrentuglio::{matrices_size, raw, Reason, Refusal, Sheet, Summary};
+use sabrentuglio::{matrices_size, raw, Cause, Reason, Refusal, Sheet, Summary};
 use sabrentuglio::{MAX_DEGREE, RECORD_LENGTH};
 use std::fmt::Debug;
 
@@ -114,6 +114,36 @@ fn sheets(pair: &mut Pair, random: &mut Random, field: &Field) {
     same_issued(sabrentuglio::read(&sheet), flat, ("read", &[]));
     let result = Sheet::read(&sheet[..]).map(|sheet| sheet.summary());
     same_issued(result, flat, ("Sheet::read", &[]));
+    pair.why(&sheet);
+    same_cause(sabrentuglio::why(&sheet), raw::why(&sheet));
+    let refusal = sabrentuglio::why(&sheet).refusal();
+    assert_eq!(refusal, sabrentuglio::read(&sheet).err());
+}
+
+/// Holds a cause against the flat answer, and its line against the numbers.
+fn same_cause(cause: Cause, flat: raw::Cause) {
+    let line = match (flat.number, cause) {
+        (0, Cause::Accepted) | (7..=9, Cause::Refused(_)) => None,
+        (2, Cause::Divisor(number)) | (5, Cause::Dependency(number)) => {
+            assert_eq!(number, flat.cause);
+            Some(flat.cause.to_string())
+        }
+        (
+            10,
+            Cause::Differs {
+                record,
+                field,
+                stored,
+                right,
+            },
+        ) => {
+            let met = (record as u64, field.number(), stored, right);
+            assert_eq!(met, (flat.place, flat.field, flat.stored, flat.right));
+            Some(format!("{} {} {} {}", flat.place, field, stored, right))
+        }
+        _ => panic!("{:?}, flat {:?}", cause, flat),
+    };
+    assert_eq!(cause.line(), line);
 }
 
 fn products(pair: &mut Pair, sheet: &[u8], a: u64, b: u64) {

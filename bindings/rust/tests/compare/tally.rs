@@ -1,11 +1,11 @@
 //! What was met: for each call how often it was done and how often each number
 //! refused it. [`Tally::close`] prints the table and says whether it is full.
 
-use crate::texts::KINDS;
-use sabrentuglio::{Grade, Reason};
+use crate::{factors, texts};
+use sabrentuglio::{Grade, Reason, RecordField};
 use std::collections::BTreeMap;
 
-/// The sixteen calls, in the order of the table.
+/// The seventeen calls, in the order of the table.
 #[derive(Clone, Copy, Debug)]
 pub enum Call {
     Check,
@@ -14,6 +14,7 @@ pub enum Call {
     Trace,
     Build,
     Read,
+    Why,
     ToPolynomial,
     ToNormal,
     ListToPolynomial,
@@ -27,13 +28,14 @@ pub enum Call {
 }
 
 /// The name of each call and the documents' order of its refusals.
-const ORDERS: [(&str, &[u64]); 16] = [
+const ORDERS: [(&str, &[u64]); 17] = [
     ("check", &[1, 2, 3]),
     ("multiply", &[1, 4]),
     ("square", &[1, 4]),
     ("trace", &[1, 4, 2, 3]),
     ("build", &[1, 4, 6, 2, 3, 5]),
     ("read", &[7, 8, 9, 2, 3, 5, 10]),
+    ("why", &[7, 8, 9, 2, 3, 5, 10]),
     ("to_polynomial", &[7, 8, 9, 4]),
     ("to_normal", &[7, 8, 9, 4]),
     ("list_to_polynomial", &[7, 8, 9, 11, 4]),
@@ -59,6 +61,16 @@ fn met(counts: &Counts, number: u64) -> u64 {
     counts.get(&number).copied().unwrap_or(0)
 }
 
+/// The names of the kinds of polynomials that something divides.
+fn divided() -> impl Iterator<Item = &'static str> {
+    factors::KINDS.iter().map(|(kind, _)| *kind)
+}
+
+/// The names of the kinds of wrong texts.
+fn wrong_texts() -> impl Iterator<Item = &'static str> {
+    texts::KINDS.iter().map(|(kind, _)| *kind)
+}
+
 /// The numbers of the refusal table.
 fn numbers() -> impl Iterator<Item = u64> {
     Reason::ALL.iter().map(|reason| reason.number())
@@ -67,8 +79,9 @@ fn numbers() -> impl Iterator<Item = u64> {
 /// Counts for each call: done, as 0, and the numbers of the table.
 #[derive(Default)]
 pub struct Tally {
-    counts: [Counts; 16],
+    counts: [Counts; 17],
     grades: Counts,
+    fields: Counts,
     kinds: BTreeMap<&'static str, u64>,
     nothing: u64,
 }
@@ -84,7 +97,12 @@ impl Tally {
         *self.grades.entry(grade).or_default() += 1;
     }
 
-    /// Counts a wrong text of a kind.
+    /// Counts the field that a refusal 10 names.
+    pub fn count_field(&mut self, field: u64) {
+        *self.fields.entry(field).or_default() += 1;
+    }
+
+    /// Counts a wrong text, or a polynomial that something divides, of a kind.
     pub fn count_kind(&mut self, kind: &'static str) {
         *self.kinds.entry(kind).or_default() += 1;
     }
@@ -104,7 +122,7 @@ impl Tally {
         self.counts.iter().map(|row| met(row, number)).sum()
     }
 
-    /// How often a kind of wrong text was refused as such.
+    /// How often a kind of text or polynomial was refused as such.
     fn met_kind(&self, kind: &str) -> u64 {
         self.kinds.get(kind).copied().unwrap_or(0)
     }
@@ -121,7 +139,11 @@ impl Tally {
             let met = met(&self.grades, grade.number());
             assert!(met >= OFTEN, "{:?} met {} times", grade, met);
         }
-        for (kind, _) in KINDS {
+        for field in RecordField::ALL {
+            let met = met(&self.fields, field.number());
+            assert!(met >= OFTEN, "{:?} met {} times", field, met);
+        }
+        for kind in wrong_texts().chain(divided()) {
             let met = self.met_kind(kind);
             assert!(met >= OFTEN, "{} met {} times", kind, met);
         }
@@ -163,7 +185,14 @@ impl Tally {
         for (grade, count) in &self.grades {
             println!("grade {}: met {} times", grade, count);
         }
-        for (kind, _) in KINDS {
+        for field in RecordField::ALL {
+            let count = met(&self.fields, field.number());
+            println!("refusal 10, {}: met {} times", field, count);
+        }
+        for kind in divided() {
+            println!("divided, {}: {}", kind, self.met_kind(kind));
+        }
+        for kind in wrong_texts() {
             println!("wrong texts, {}: {}", kind, self.met_kind(kind));
         }
         println!("searches that found nothing: {}", self.nothing);
