@@ -1,5 +1,5 @@
 -- The small numbers of document 01 ("Small numbers to hold it against"), of what the calls answer; those of division (document 02, §1), of its
--- definitions on rows that are written out; those of grades (§3); and two texts of matrices (§4).
+-- definitions on rows that are written out; those of grades (§3); two texts of matrices (§4); and causes (§5).
 --
 --   Issued, Refused, Converted, Multiplied, Rejected   what a line says of the calls
 --   examples          the twelve lines marked P, in one table
@@ -10,6 +10,7 @@
 --   second-kind, both-kinds, cubes   grades at degrees 6 and 18, and why degree 2 has one of its own
 --   texts             the texts of 7 and 2, and of 11 and 3, in full, as writing leaves them; a third one, and texts that are not right:
 --                     `Examples` in `matrices`
+--   causes-told, causes-numbered   what lies behind 2, 5 and 10; the lister's second lines, byte for byte: `Examples` in `listing`
 --
 -- Assumes nothing.
 use mathlib.Core.Path.{_≡_, refl}
@@ -18,7 +19,7 @@ use mathlib.Core.List.{List, [], _∷_, _++_}
 use Prim.Native.Nat.{ℕ, _+_, _*_, _^_}
 use lib.Count.{ones, onesIn}
 use lib.Dec.{ltb, eqb}
-use lib.ListN.{drop, replicate}
+use lib.ListN.{drop, replicate, set}
 use Rattle.gf2.specs.Poly.{_⊕_, digitsFrom, digits, product, degree, reduce, rem, mulMod, divides}
 use Rattle.gf2.specs.Bounded.{some, first}
 use Rattle.field.specs.Field.{squared, powMod}
@@ -29,13 +30,16 @@ use Rattle.refusals.specs.Answers.{Report, reportOf, left}
 use Rattle.field.specs.Answers.{checkReport}
 use Rattle.rows.specs.Bits.{bitOf}
 use Rattle.rows.specs.Rows.{comb, independent}
-use Rattle.normal.specs.Normal.{conjugatesFrom, conjugates, normal, coordinates, listed, inverseRows, tableRows, complexity}
+use Rattle.normal.specs.Normal.{conjugatesFrom, conjugates, normal, dependency, coordinates, listed, inverseRows, tableRows, complexity}
 use Rattle.normal.specs.Grades.{kindOf, gradeOf, gradeNumber}
 use Rattle.normal.specs.TableProduct.{rotate, rotatedBy, total, productBit, tableProduct}
 use Rattle.normal.specs.Powers.{powerWithin, powerOf, inverseOf, quotientOf}
 use Rattle.sheet.specs.Record.{recordSize, conjugateRowsIn, inverseRowsIn, tableRowsIn, bytesOf, numberIn, recordBytes, recordsTo, sheetBytes, columnIn, rowsIn, recordAt}
 use Rattle.sheet.specs.Orders.{badLength, misplaced, oversized, same, recordRules, differRules, valueRules}
 use Rattle.sheet.specs.Answers.{Issue, issueOf, summaryOf, buildReport, builtBuffer, readReport, toPolynomial, polynomialReport, toNormal, normalReport, throughTable, timesReport}
+use Rattle.divisors.specs.Smallest.{smallestDivisor}
+use Rattle.causes.specs.Causes.{numberOf, firstField, differenceIn, polynomialCause, basisCause, sheetCause, causeOf, whyAnswer, whyCheckAnswer, whyBuildAnswer, fieldNumber, causeReport}
+use Rattle.causes.specs.declared.answer.Cause.the-variants as cause
 use Rattle.matrices.specs.Matrices.{matrixEntry, inOrder, lineBytes, matrixBytes, textBytes, matricesText, textSize}
 use Rattle.matrices.specs.Answers.{writtenText}
 use Rattle.matrices.specs.Examples.{textOfTwo, textOfThree}
@@ -158,3 +162,16 @@ cubes = (refl, refl)
 pub texts : (writtenText (sheetOf 7 2) (zeros 14) ≡ textOfTwo) × (writtenText (sheetOf 11 3) (zeros 40) ≡ textOfThree ++ zeros 1)
 unfolding writtenText textSize matricesText textBytes matrixBytes lineBytes inOrder matrixEntry same differRules recordAt builtBuffer left firstOf badLength misplaced oversized recordRules columnIn numberIn tooLarge bytesOf recordBytes recordsTo sheetBytes degreeOutside divided strays divides degree some first normal independent conjugates conjugatesFrom squared inverseRows tableRows listed coordinates comb mulMod rem reduce product digits digitsFrom _⊕_ bitOf
 texts = (refl, refl)
+
+-- ---- causes (document 02, §5)
+
+-- f = 5, x^8 + x^2 + 1; for f = 11 the element 0, and the element 2, whose conjugates 2, 4 and 6 sum to zero
+pub causes-told : (whyCheckAnswer 5 ≡ cause.Divisor 3) × (whyCheckAnswer 261 ≡ cause.Divisor 19) × (whyBuildAnswer 11 0 ≡ cause.Dependency 1) × (whyBuildAnswer 11 2 ≡ cause.Dependency 7)
+unfolding whyCheckAnswer whyBuildAnswer causeOf basisCause polynomialCause smallestDivisor dependency firstOf tooLarge degreeOutside divided strays divides degree some first normal independent conjugates conjugatesFrom squared comb mulMod rem reduce product digits digitsFrom _⊕_
+causes-told = (refl, refl, refl, refl)
+
+-- the numbers that C gets for the sheet of f = 11, element 3, and for the same with the inverse row of record 1 changed from 6 to 7
+pub causes-numbered : (causeReport (whyAnswer (sheetOf 11 3)) ≡ record { number = 0; place = 0; cause = 0; field = 0; stored = 0; right = 0 })
+    × (causeReport (whyAnswer (set (sheetOf 11 3) 48 7)) ≡ record { number = 10; place = 1; cause = 0; field = 2; stored = 7; right = 6 })
+unfolding whyAnswer causeOf causeReport sheetCause basisCause polynomialCause differenceIn firstField numberOf fieldNumber same differRules recordAt builtBuffer left firstOf badLength misplaced oversized recordRules columnIn numberIn tooLarge bytesOf recordBytes recordsTo sheetBytes degreeOutside divided strays divides degree some first normal independent conjugates conjugatesFrom squared inverseRows tableRows listed coordinates comb mulMod rem reduce product digits digitsFrom _⊕_
+causes-numbered = (refl, refl)
