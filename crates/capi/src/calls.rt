@@ -4,7 +4,7 @@ ghost use mathlib.Core.Path.{_≡_};
 ghost use lib.ListN.{length};
 ghost use Rattle.field.specs.Answers.{checkReport, multiplyReport, squareReport, traceReport};
 ghost use Rattle.sheet.specs.Answers.{buildReport, builtBuffer, readReport, polynomialReport, normalReport, timesReport, inverseReport, quotientReport, polynomialListReport, polynomialList, normalListReport, normalList};
-ghost use Rattle.causes.specs.Causes.{causeReport, whyAnswer};
+ghost use Rattle.causes.specs.Causes.{whyReport};
 ghost use Rattle.matrices.specs.Answers.{writeTextReport, writtenText, readTextReport};
 ghost use Rattle.search.specs.Answers.{searchAnswer, searchReport};
 ghost use Rattle.capi.specs.Answers.{deskValue, deskIssued, deskFound, deskCause, foundFlag};
@@ -145,7 +145,7 @@ pub extern "C" fn desk_read_matrices(f: u64, element: u64, text: &[u8]) -> DeskI
 // Why reading refuses the sheet; all zero where it does not.
 #[no_mangle]
 pub extern "C" fn desk_why(sheet: &[u8]) -> DeskCause
-    ensures { λ r. ⌜ r ≡ deskCause (causeReport (whyAnswer (now (sheet .entry)))) ⌝ }
+    ensures { λ r. ⌜ r ≡ deskCause (whyReport (now (sheet .entry))) ⌝ }
 {
     cause_out(causes::why(sheet))
 }

@@ -7,8 +7,9 @@
 --   differenceIn sheet i            the same of a sheet and the one rebuilt from it
 --   polynomialCause, basisCause, sheetCause   what lies behind a refusal of a polynomial, of a polynomial and an element, of a sheet
 --   causeOf v behind                the case that a verdict gives: behind says what lies behind each number and place
---   whyAnswer, ..                   the calls, as functions of their inputs
 --   Reason, causeReport             the numbers of a case, as C is handed them; `fieldNumber`: that of a field
+--   reasonOf v behind               the numbers that a verdict gives
+--   ..Answer, ..Report              the calls, as functions of their inputs: `why`, `why_check`, `why_build`
 --
 -- Assumes nothing.
 use mathlib.Core.Bool.{cond}
@@ -126,3 +127,27 @@ causeReport (cause.Divisor d) = bareReason 2 0 d
 causeReport (cause.Became y) = bareReason 3 0 y
 causeReport (cause.Dependency v) = bareReason 5 0 v
 causeReport (cause.Differs d) = record { number = 10; place = d .place; cause = 0; field = fieldNumber (d .field); stored = d .stored; right = d .right }
+
+-- ---- the numbers of the calls
+
+-- number and place are the verdict's, and the rest is what lies behind them; all zero where nothing is refused
+unfoldable pub reasonOf : Verdict → (ℕ → ℕ → Cause) → Reason
+reasonOf clear behind = bareReason 0 0 0
+reasonOf (refuse number place) behind =
+    record {
+      number = number;
+      place = place;
+      cause = causeReport (behind number place) .cause;
+      field = causeReport (behind number place) .field;
+      stored = causeReport (behind number place) .stored;
+      right = causeReport (behind number place) .right;
+    }
+
+unfoldable pub whyReport : (sheet : List ℕ) → Reason
+whyReport sheet = reasonOf (firstOf (readOrder sheet)) (sheetCause sheet)
+
+unfoldable pub whyCheckReport : (f : ℕ) → Reason
+whyCheckReport f = reasonOf (firstOf (checkOrder f)) (polynomialCause f (degree f))
+
+unfoldable pub whyBuildReport : (f a : ℕ) → Reason
+whyBuildReport f a = reasonOf (firstOf (buildOrder f a (recordSize * limit))) (basisCause f (degree f) a)

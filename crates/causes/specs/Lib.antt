@@ -3,5 +3,6 @@ pub mod Causes
 pub mod Behind
 pub mod Differing
 pub mod Cases
+pub mod Reported
 pub mod True
 pub mod Named

@@ -4,7 +4,7 @@ ghost use mathlib.Core.Bool.{_&&_, _||_};
 ghost use lib.Dec.{leb, eqb};
 ghost use Rattle.refusals.specs.Verdicts.{refuse, firstOf};
 ghost use Rattle.sheet.specs.Orders.{Shaped, rebuildOrder, readOrder};
-ghost use Rattle.causes.specs.Causes.{sheetCause, whyAnswer, whyCheckAnswer, whyBuildAnswer};
+ghost use Rattle.causes.specs.Causes.{sheetCause, causeReport, whyAnswer, whyReport, whyCheckAnswer, whyCheckReport, whyBuildAnswer, whyBuildReport};
 use super::answer::Cause;
 use super::behind::basis_cause;
 use super::behind::difference_of;
@@ -55,7 +55,8 @@ fn sheet_cause(sheet: &[u8], refusal: Refusal) -> Cause
 
 // Why reading refuses the sheet.
 pub fn why(sheet: &[u8]) -> Cause
-    ensures { λ r. ⌜ r ≡ whyAnswer (now (sheet .entry)) ⌝ }
+    ensures answer { λ r. ⌜ r ≡ whyAnswer (now (sheet .entry)) ⌝ }
+    ensures report { λ r. ⌜ causeReport r ≡ whyReport (now (sheet .entry)) ⌝ }
 {
     match sheet::read(sheet) {
         Issued::Refused(refusal) => sheet_cause(sheet, refusal),
@@ -65,7 +66,8 @@ pub fn why(sheet: &[u8]) -> Cause
 
 // Why check refuses f. 1 says all.
 pub fn why_check(f: u64) -> Cause
-    ensures { λ r. ⌜ r ≡ whyCheckAnswer f ⌝ }
+    ensures answer { λ r. ⌜ r ≡ whyCheckAnswer f ⌝ }
+    ensures report { λ r. ⌜ causeReport r ≡ whyCheckReport f ⌝ }
 {
     match field::check(f) {
         Checked::Refused(refusal) => {
@@ -87,7 +89,8 @@ fn is_of_operands(number: u8) -> bool
 
 // Why build refuses f and the element, with room for every sheet. A refusal of the operands says all.
 pub fn why_build(f: u64, element: u64) -> Cause
-    ensures { λ r. ⌜ r ≡ whyBuildAnswer f element ⌝ }
+    ensures answer { λ r. ⌜ r ≡ whyBuildAnswer f element ⌝ }
+    ensures report { λ r. ⌜ causeReport r ≡ whyBuildReport f element ⌝ }
 {
     let mut room = [0u8; RECORD * LIMIT];
     match sheet::build(f, element, &mut room) {

@@ -1,31 +1,34 @@
 -- Causes (document 02, §5), through the answers of the calls: "Prove the cause true, and smallest where promised so."
 --
 --   cause-true, cause-check-true, cause-build-true   each cause is true: `True`, `CheckTrue` and `BuildTrue` in `causes` say what that is
---   why-as-reading                    number and place are those of reading
+--   why-numbers, why-as-reading       the numbers that C gets are those of the case, and number and place are those of reading
 --   why-number-runs, why-field-runs   a number lies behind 2, 3 and 5 alone, and a field behind 10 alone
 --   why-zero-runs                     all is zero where reading accepts
 --   second-line, shape-one-line       the lister's text: the line of the refusal, and the cause's line after it; 7, 8 and 9 have none
 --   ..-runs                           of the calls themselves, for every run of them
 --
 -- Assumes nothing.
-use mathlib.Core.Path.{_≡_, refl, sym, _∙_}
+use mathlib.Core.Path.{_≡_, refl, ap, _∙_}
 use mathlib.Core.List.{List, _++_, append-nil}
 use Prim.Native.Nat.{ℕ, _≤_}
 use denote.Ref.{now}
+use Rattle.refusals.specs.Verdicts.{Verdict, clear, refuse, firstOf}
 use Rattle.refusals.specs.declared.answer.Refusal.{Refusal}
-use Rattle.sheet.specs.Answers.{issuedReport, summaryIn, readAnswer}
+use Rattle.sheet.specs.Orders.{readOrder}
+use Rattle.sheet.specs.Answers.{issueOf, summaryIn, readAnswer, readReport}
+use Rattle.sheet.specs.Answered.{done-clear}
 use Rattle.sheet.specs.declared.answer.Issued.the-variants as issued
-use Rattle.causes.specs.Causes.{bareReason, causeReport, whyAnswer, whyCheckAnswer, whyBuildAnswer}
+use Rattle.causes.specs.Causes.{bareReason, causeReport, sheetCause, reasonOf, whyAnswer, whyReport, whyCheckAnswer, whyBuildAnswer}
+use Rattle.causes.specs.Reported.{why-promised}
 use Rattle.causes.specs.True.{True, why-true, shape-alone}
 use Rattle.causes.specs.Named.{CheckTrue, check-true, BuildTrue, build-true}
 use Rattle.causes.specs.declared.answer.Cause.{Cause}
 use Rattle.causes.specs.declared.answer.Cause.the-variants as cause
-use Rattle.matrices.specs.Judging.{not-refused}
 use Rattle.capi.specs.Answers.{deskCause}
 use Rattle.listing.specs.Text.{refusedLine, causeLine, listingBy, listingOf}
-use Rattle.promises.specs.Calls.{Run, read, why, why-check, why-build, desk-why}
-use Rattle.promises.specs.Demand1.{read-is, why-is, why-check-is, why-build-is}
-use Rattle.promises.specs.Exports.{desk-why-is}
+use Rattle.promises.specs.Calls.{Run, why, why-check, why-build, desk-read, desk-why}
+use Rattle.promises.specs.Demand1.{why-is, why-check-is, why-build-is}
+use Rattle.promises.specs.Exports.{desk-read-is, desk-why-is}
 
 -- ---- "Prove the cause true"
 
@@ -49,20 +52,18 @@ cause-build-true-runs c = rw (why-build-is c) (cause-build-true (c .args .0) (c 
 
 -- ---- the numbers
 
--- "number and place as reading's"
-as-reading : (sheet : List ℕ) (c : Cause) → True sheet c
-    → (causeReport c .number ≡ issuedReport (readAnswer sheet) .number) × (causeReport c .place ≡ issuedReport (readAnswer sheet) .place)
-unfolding causeReport issuedReport
-as-reading sheet cause.Accepted t = rw t (refl, refl)
-as-reading sheet (cause.Refused r) t = rw (t .0) (refl, refl)
-as-reading sheet (cause.Divisor d) t = rw (t .0) (refl, refl)
-as-reading sheet (cause.Became y) t = rw (t .0) (refl, refl)
-as-reading sheet (cause.Dependency v) t = rw (t .0) (refl, refl)
-as-reading sheet (cause.Differs d) t = rw (t .0) (refl, refl)
+-- the numbers that C gets are those of the case
+pub why-numbers : (sheet : List ℕ) → causeReport (whyAnswer sheet) ≡ whyReport sheet
+why-numbers sheet = why-promised sheet refl .1
 
-pub why-as-reading : (sheet : List ℕ) → (causeReport (whyAnswer sheet) .number ≡ issuedReport (readAnswer sheet) .number)
-    × (causeReport (whyAnswer sheet) .place ≡ issuedReport (readAnswer sheet) .place)
-why-as-reading sheet = as-reading sheet (whyAnswer sheet) (why-true sheet)
+-- "number and place as reading's"
+pub why-as-reading : (sheet : List ℕ) → (whyReport sheet .number ≡ readReport sheet .number) × (whyReport sheet .place ≡ readReport sheet .place)
+unfolding whyReport readReport
+why-as-reading sheet = go (firstOf (readOrder sheet))
+  where
+    go : (v : Verdict) → (reasonOf v (sheetCause sheet) .number ≡ issueOf v (summaryIn sheet) .number) × (reasonOf v (sheetCause sheet) .place ≡ issueOf v (summaryIn sheet) .place)
+    go clear = unfold reasonOf issueOf in (refl, refl)
+    go (refuse k p) = unfold reasonOf issueOf in (refl, refl)
 
 -- "cause the number of 2, 3 and 5, else 0"
 number-alone : (c : Cause) → (causeReport c .number ≡ 2 → ⊥) → (causeReport c .number ≡ 3 → ⊥) → (causeReport c .number ≡ 5 → ⊥) → causeReport c .cause ≡ 0
@@ -84,29 +85,23 @@ field-alone (cause.Became y) ten = (refl, refl, refl)
 field-alone (cause.Dependency v) ten = (refl, refl, refl)
 field-alone (cause.Differs d) ten = absurd (ten refl)
 
--- of every run of the export, beside a run of reading on the same sheet
-module _ (c : Run desk-why) (r : Run read) (same : now (c .args .0) ≡ now (r .args .0)) where
-  pub why-as-reading-runs : (c .result .number ≡ issuedReport (r .result) .number) × (c .result .place ≡ issuedReport (r .result) .place)
-  why-as-reading-runs = rw (desk-why-is c, same, read-is r) (why-as-reading (now (r .args .0)))
+-- of every run of the export, beside a run of reading's on the same sheet
+pub why-as-reading-runs : (c : Run desk-why) (r : Run desk-read) → now (c .args .0) ≡ now (r .args .0)
+    → (c .result .number ≡ r .result .number) × (c .result .place ≡ r .result .place)
+why-as-reading-runs c r same = rw (desk-why-is c, desk-read-is r, same) (why-as-reading (now (r .args .0)))
 
 pub why-number-runs : (c : Run desk-why) → (c .result .number ≡ 2 → ⊥) → (c .result .number ≡ 3 → ⊥) → (c .result .number ≡ 5 → ⊥) → c .result .cause ≡ 0
-why-number-runs c = rw (desk-why-is c) (number-alone (whyAnswer (now (c .args .0))))
+why-number-runs c = rw (desk-why-is c, ← why-numbers (now (c .args .0))) (number-alone (whyAnswer (now (c .args .0))))
 
 pub why-field-runs : (c : Run desk-why) → (c .result .number ≡ 10 → ⊥) → (c .result .field ≡ 0) × (c .result .stored ≡ 0) × (c .result .right ≡ 0)
-why-field-runs c = rw (desk-why-is c) (field-alone (whyAnswer (now (c .args .0))))
+why-field-runs c = rw (desk-why-is c, ← why-numbers (now (c .args .0))) (field-alone (whyAnswer (now (c .args .0))))
 
 -- "All zero where reading accepts."
 pub why-zero-runs : (c : Run desk-why) → readAnswer (now (c .args .0)) ≡ issued.Done (summaryIn (now (c .args .0))) → c .result ≡ deskCause (bareReason 0 0 0)
-unfolding causeReport
-why-zero-runs c e = rw (desk-why-is c) (zero (whyAnswer (now (c .args .0))) (why-true (now (c .args .0))))
-  where
-    zero : (w : Cause) → True (now (c .args .0)) w → deskCause (causeReport w) ≡ deskCause (bareReason 0 0 0)
-    zero cause.Accepted t = refl
-    zero (cause.Refused r) t = absurd (not-refused _ r (sym e ∙ t .0))
-    zero (cause.Divisor d) t = absurd (not-refused _ _ (sym e ∙ t .0))
-    zero (cause.Became y) t = absurd (not-refused _ _ (sym e ∙ t .0))
-    zero (cause.Dependency v) t = absurd (not-refused _ _ (sym e ∙ t .0))
-    zero (cause.Differs d) t = absurd (not-refused _ _ (sym e ∙ t .0))
+unfolding readAnswer whyReport reasonOf
+why-zero-runs c e =
+    let sheet : List ℕ = now (c .args .0) in
+    desk-why-is c ∙ ap (λ (v : Verdict). deskCause (reasonOf v (sheetCause sheet))) (done-clear (firstOf (readOrder sheet)) (summaryIn sheet) (summaryIn sheet) e)
 
 -- ---- the lister
 

@@ -65,22 +65,22 @@ read-determined κs a x y e e′ p q = p .0 ∙ sym (q .0)
 -- ---- causes
 
 pub why-is : (c : Run why) → c .result ≡ whyAnswer (now (c .args .0))
-why-is c = c .kept
+why-is c = c .kept .0
 
 pub why-determined : Determined why
-why-determined κs a x y e e′ p q = p ∙ sym q
+why-determined κs a x y e e′ p q = p .0 ∙ sym (q .0)
 
 pub why-check-is : (c : Run why-check) → c .result ≡ whyCheckAnswer (c .args .0)
-why-check-is c = c .kept
+why-check-is c = c .kept .0
 
 pub why-check-determined : Determined why-check
-why-check-determined κs a x y e e′ p q = p ∙ sym q
+why-check-determined κs a x y e e′ p q = p .0 ∙ sym (q .0)
 
 pub why-build-is : (c : Run why-build) → c .result ≡ whyBuildAnswer (c .args .0) (c .args .1 .0)
-why-build-is c = c .kept
+why-build-is c = c .kept .0
 
 pub why-build-determined : Determined why-build
-why-build-determined κs a x y e e′ p q = p ∙ sym q
+why-build-determined κs a x y e e′ p q = p .0 ∙ sym (q .0)
 
 -- ---- single values through a sheet
 

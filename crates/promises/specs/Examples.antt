@@ -38,7 +38,7 @@ use Rattle.sheet.specs.Record.{recordSize, conjugateRowsIn, inverseRowsIn, tabl
 use Rattle.sheet.specs.Orders.{badLength, misplaced, oversized, same, recordRules, differRules, valueRules}
 use Rattle.sheet.specs.Answers.{Issue, issueOf, summaryOf, buildReport, builtBuffer, readReport, toPolynomial, polynomialReport, toNormal, normalReport, throughTable, timesReport}
 use Rattle.divisors.specs.Smallest.{smallestDivisor}
-use Rattle.causes.specs.Causes.{numberOf, firstField, differenceIn, polynomialCause, basisCause, sheetCause, causeOf, whyAnswer, whyCheckAnswer, whyBuildAnswer, fieldNumber, causeReport}
+use Rattle.causes.specs.Causes.{numberOf, firstField, differenceIn, polynomialCause, basisCause, sheetCause, causeOf, whyReport, whyCheckAnswer, whyBuildAnswer, fieldNumber, causeReport, reasonOf}
 use Rattle.causes.specs.declared.answer.Cause.the-variants as cause
 use Rattle.matrices.specs.Matrices.{matrixEntry, inOrder, lineBytes, matrixBytes, textBytes, matricesText, textSize}
 use Rattle.matrices.specs.Answers.{writtenText}
@@ -171,7 +171,7 @@ unfolding whyCheckAnswer whyBuildAnswer causeOf basisCause polynomialCause small
 causes-told = (refl, refl, refl, refl)
 
 -- the numbers that C gets for the sheet of f = 11, element 3, and for the same with the inverse row of record 1 changed from 6 to 7
-pub causes-numbered : (causeReport (whyAnswer (sheetOf 11 3)) ≡ record { number = 0; place = 0; cause = 0; field = 0; stored = 0; right = 0 })
-    × (causeReport (whyAnswer (set (sheetOf 11 3) 48 7)) ≡ record { number = 10; place = 1; cause = 0; field = 2; stored = 7; right = 6 })
-unfolding whyAnswer causeOf causeReport sheetCause basisCause polynomialCause differenceIn firstField numberOf fieldNumber same differRules recordAt builtBuffer left firstOf badLength misplaced oversized recordRules columnIn numberIn tooLarge bytesOf recordBytes recordsTo sheetBytes degreeOutside divided strays divides degree some first normal independent conjugates conjugatesFrom squared inverseRows tableRows listed coordinates comb mulMod rem reduce product digits digitsFrom _⊕_
+pub causes-numbered : (whyReport (sheetOf 11 3) ≡ record { number = 0; place = 0; cause = 0; field = 0; stored = 0; right = 0 })
+    × (whyReport (set (sheetOf 11 3) 48 7) ≡ record { number = 10; place = 1; cause = 0; field = 2; stored = 7; right = 6 })
+unfolding whyReport reasonOf causeReport sheetCause basisCause polynomialCause differenceIn firstField numberOf fieldNumber same differRules recordAt builtBuffer left firstOf badLength misplaced oversized recordRules columnIn numberIn tooLarge bytesOf recordBytes recordsTo sheetBytes degreeOutside divided strays divides degree some first normal independent conjugates conjugatesFrom squared inverseRows tableRows listed coordinates comb mulMod rem reduce product digits digitsFrom _⊕_
 causes-numbered = (refl, refl)

@@ -6,7 +6,7 @@ use lib.ListN.{length}
 use denote.Ref.{now}
 use Rattle.field.specs.Answers.{checkReport, multiplyReport, squareReport, traceReport}
 use Rattle.sheet.specs.Answers.{buildReport, builtBuffer, readReport, polynomialReport, normalReport, timesReport, inverseReport, quotientReport, polynomialListReport, polynomialList, normalListReport, normalList}
-use Rattle.causes.specs.Causes.{causeReport, whyAnswer}
+use Rattle.causes.specs.Causes.{whyReport}
 use Rattle.matrices.specs.Answers.{writeTextReport, writtenText, readTextReport}
 use Rattle.search.specs.Answers.{searchAnswer, searchReport}
 use Rattle.capi.specs.Answers.{deskValue, deskIssued, deskFound, deskCause, deskWord, foundFlag}
@@ -54,7 +54,7 @@ desk-read-is c = c .kept
 pub desk-read-determined : Determined desk-read
 desk-read-determined κs a x y e e′ p q = p ∙ sym q
 
-pub desk-why-is : (c : Run desk-why) → c .result ≡ deskCause (causeReport (whyAnswer (now (c .args .0))))
+pub desk-why-is : (c : Run desk-why) → c .result ≡ deskCause (whyReport (now (c .args .0)))
 desk-why-is c = c .kept
 
 pub desk-why-determined : Determined desk-why

@@ -7,6 +7,7 @@ use Rattle.sheet.specs.Orders.{readOrder}
 use Rattle.sheet.specs.Answers.{summaryIn, readAnswer}
 use Rattle.sheet.specs.Answered.{done-clear, refused-verdict}
 use Rattle.causes.specs.Causes.{sheetCause, whyAnswer}
+use Rattle.causes.specs.Reported.{why-promised}
 use Rattle.causes.specs.Cases.{cause-refused, cause-accepted}
 use Rattle.causes.proofs.calls.why.Statement.{statement}
 use Rattle.causes.proofs.calls.why.Tie as tie
@@ -34,14 +35,16 @@ returns c =
     let k = c .before .before in
     let r = k .before .before in
     let sheet = r .before .before .args .sheet .now in
-    cause-refused (sheetCause sheet) (refused-verdict (firstOf (readOrder sheet)) (summaryIn sheet) (sym (r .read .ensures .0) ∙ k .refusal .given .1)) (c .sheet-cause .ensures)
+    why-promised sheet
+    (cause-refused (sheetCause sheet) (refused-verdict (firstOf (readOrder sheet)) (summaryIn sheet) (sym (r .read .ensures .0) ∙ k .refusal .given .1)) (c .sheet-cause .ensures))
 
 returns-2 : tie.Need-returns-2
 unfolding readAnswer whyAnswer
 returns-2 c =
     let r = c .before .before in
     let sheet = r .before .before .args .sheet .now in
-    cause-accepted (sheetCause sheet) (done-clear (firstOf (readOrder sheet)) (summaryIn sheet) _ (sym (r .read .ensures .0) ∙ c .enum-told .given .1))
+    why-promised sheet
+    (cause-accepted (sheetCause sheet) (done-clear (firstOf (readOrder sheet)) (summaryIn sheet) _ (sym (r .read .ensures .0) ∙ c .enum-told .given .1)))
 
 pub why-spec : {M : Type 1} → statement M
 why-spec =

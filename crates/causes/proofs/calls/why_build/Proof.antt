@@ -13,6 +13,7 @@ use Rattle.sheet.specs.Answered.{done-clear, refused-verdict}
 use Rattle.sheet.specs.declared.answer.Issued.the-variants as issued
 use Rattle.causes.specs.Causes.{basisCause, whyBuildAnswer}
 use Rattle.causes.specs.Behind.{operands-number, build-operand, build-dependent}
+use Rattle.causes.specs.Reported.{build-promised}
 use Rattle.causes.specs.Cases.{basis-alone, cause-refused, cause-accepted}
 use Rattle.causes.proofs.calls.why_build.Statement.{statement}
 use Rattle.causes.proofs.calls.why_build.Tie as tie
@@ -40,8 +41,9 @@ returns c =
     let f = s .args .f in
     let a = s .args .element in
     let r = k .refusal .given .0 .0 in
-    cause-refused (basisCause f (degree f) a) (refused-verdict (firstOf (buildOrder f a (recordSize * limit))) (summaryOf f (degree f) a) (sym (b .build .ensures .0) ∙ k .refusal .given .1))
-    (basis-alone f (degree f) r a (operands-number (r .number) .0 (sym (t .is-of-operands .ensures) ∙ c .if1 .taken)))
+    build-promised f a
+    (cause-refused (basisCause f (degree f) a) (refused-verdict (firstOf (buildOrder f a (recordSize * limit))) (summaryOf f (degree f) a) (sym (b .build .ensures .0) ∙ k .refusal .given .1))
+    (basis-alone f (degree f) r a (operands-number (r .number) .0 (sym (t .is-of-operands .ensures) ∙ c .if1 .taken))))
 
 degree-of-requires : tie.Need-degree-of-requires
 degree-of-requires c κs = search needs
@@ -78,8 +80,9 @@ returns-2 c =
     let f = s .args .f in
     let a = s .args .element in
     let r = k .refusal .given .0 .0 in
-    cause-refused (basisCause f (degree f) a) (refused-verdict (firstOf (buildOrder f a (recordSize * limit))) (summaryOf f (degree f) a) (sym (b .build .ensures .0) ∙ k .refusal .given .1))
-    (c .basis-cause .ensures ∙ ap (λ (n : ℕ). basisCause f n a (r .number) (r .place)) (d .degree-of .ensures))
+    build-promised f a
+    (cause-refused (basisCause f (degree f) a) (refused-verdict (firstOf (buildOrder f a (recordSize * limit))) (summaryOf f (degree f) a) (sym (b .build .ensures .0) ∙ k .refusal .given .1))
+    (c .basis-cause .ensures ∙ ap (λ (n : ℕ). basisCause f n a (r .number) (r .place)) (d .degree-of .ensures)))
 
 returns-3 : tie.Need-returns-3
 unfolding buildAnswer whyBuildAnswer
@@ -88,7 +91,8 @@ returns-3 c =
     let s = b .before .before in
     let f = s .args .f in
     let a = s .args .element in
-    cause-accepted (basisCause f (degree f) a) (done-clear (firstOf (buildOrder f a (recordSize * limit))) (summaryOf f (degree f) a) _ (sym (b .build .ensures .0) ∙ c .enum-told .given .1))
+    build-promised f a
+    (cause-accepted (basisCause f (degree f) a) (done-clear (firstOf (buildOrder f a (recordSize * limit))) (summaryOf f (degree f) a) _ (sym (b .build .ensures .0) ∙ c .enum-told .given .1)))
 
 pub why-build-spec : {M : Type 1} → statement M
 why-build-spec =

@@ -11,6 +11,7 @@ use Rattle.field.specs.Refusals.{checkOrder}
 use Rattle.field.specs.Answers.{checkAnswer}
 use Rattle.causes.specs.Causes.{polynomialCause, whyCheckAnswer}
 use Rattle.causes.specs.Behind.{check-range}
+use Rattle.causes.specs.Reported.{check-promised}
 use Rattle.causes.specs.Cases.{polynomial-alone, cause-refused, cause-accepted}
 use Rattle.causes.proofs.calls.why_check.Statement.{statement}
 use Rattle.causes.proofs.calls.why_check.Tie as tie
@@ -28,8 +29,9 @@ returns c =
     let h = k .before .before in
     let f = h .before .args .f in
     let r = k .refusal .given .0 .0 in
-    cause-refused (polynomialCause f (degree f)) (judged-verdict (firstOf (checkOrder f)) (h .check .ensures .0) (k .refusal .given .1))
-    (polynomial-alone f (degree f) r (λ e. omega (arith, c .if1 .taken)) (λ e. omega (arith, c .if1 .taken)))
+    check-promised f
+    (cause-refused (polynomialCause f (degree f)) (judged-verdict (firstOf (checkOrder f)) (h .check .ensures .0) (k .refusal .given .1))
+    (polynomial-alone f (degree f) r (λ e. omega (arith, c .if1 .taken)) (λ e. omega (arith, c .if1 .taken))))
 
 degree-of-requires : tie.Need-degree-of-requires
 degree-of-requires c κs = search needs
@@ -55,15 +57,17 @@ returns-2 c =
     let h = k .before .before in
     let f = h .before .args .f in
     let r = k .refusal .given .0 .0 in
-    cause-refused (polynomialCause f (degree f)) (judged-verdict (firstOf (checkOrder f)) (h .check .ensures .0) (k .refusal .given .1))
-    (c .polynomial-cause .ensures ∙ ap (λ (n : ℕ). polynomialCause f n (r .number) (r .place)) (d .degree-of .ensures))
+    check-promised f
+    (cause-refused (polynomialCause f (degree f)) (judged-verdict (firstOf (checkOrder f)) (h .check .ensures .0) (k .refusal .given .1))
+    (c .polynomial-cause .ensures ∙ ap (λ (n : ℕ). polynomialCause f n (r .number) (r .place)) (d .degree-of .ensures)))
 
 returns-3 : tie.Need-returns-3
 unfolding checkAnswer whyCheckAnswer
 returns-3 c =
     let h = c .before .before in
     let f = h .before .args .f in
-    cause-accepted (polynomialCause f (degree f)) (judged-clear (firstOf (checkOrder f)) (h .check .ensures .0) (c .enum-told .given .1))
+    check-promised f
+    (cause-accepted (polynomialCause f (degree f)) (judged-clear (firstOf (checkOrder f)) (h .check .ensures .0) (c .enum-told .given .1)))
 
 pub why-check-spec : {M : Type 1} → statement M
 why-check-spec =
