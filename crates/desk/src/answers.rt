@@ -1,8 +1,8 @@
 // What the calls answer, written for a reader. The degree is that of f or of the sheet, for the line on a value that is too large.
 use super::options::WORDS_ROOM;
 use super::output::Output;
-use super::refusing::refuse;
 use super::refusing::refuse_words;
+use super::telling::refuse_for;
 use normal::grade_number;
 use refusals::Checked;
 use refusals::Refusal;
@@ -12,9 +12,10 @@ use search::Search;
 use streams::Ending;
 use streams::done_if;
 
-pub(crate) fn answer_check(output: Output, answer: Checked) -> Ending {
-    match answer {
-        Checked::Refused(refusal) => refuse(refusal),
+// Whether f is accepted; if not, its refusal with the cause.
+pub(crate) fn answer_check(output: Output, f: u64) -> Ending {
+    match field::check(f) {
+        Checked::Refused(refusal) => refuse_for(refusal, causes::why_check(f)),
         Checked::Done => done_if(output.put(b"accepted\n")),
     }
 }

@@ -11,6 +11,7 @@ pub(crate) enum Command {
     Show,
     List,
     Verify,
+    Why,
     Matrices,
     ReadMatrices,
     Times,
@@ -58,6 +59,8 @@ fn sheet_command_of(word: &[u8]) -> Command {
         Command::List
     } else if same(word, b"verify") {
         Command::Verify
+    } else if same(word, b"why") {
+        Command::Why
     } else if same(word, b"times") {
         Command::Times
     } else if same(word, b"inverse") {

@@ -18,7 +18,7 @@ pub(crate) fn check(places: &[usize; WORDS_ROOM], given: Given, output: Output) 
     let Word::Number(f) = polynomial_at(places[1]) else {
         return Ending::BadWord;
     };
-    answer_check(output, field::check(f))
+    answer_check(output, f)
 }
 
 pub(crate) fn multiply(places: &[usize; WORDS_ROOM], given: Given, output: Output) -> Ending {

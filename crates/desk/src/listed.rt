@@ -1,6 +1,7 @@
 // What reading says of a sheet: its listing, or a line in words.
 use super::output::Output;
 use super::refusing::refuse;
+use super::telling::refuse_for;
 use listing::LISTING_ROOM;
 use normal::grade_number;
 use sheet::Issued;
@@ -47,10 +48,10 @@ fn put_kind(output: Output, name: &[u8], summary: Summary) -> bool {
         && output.put(b"\n")
 }
 
-// The listing of a sheet that reading accepts, or its refusal.
+// The listing of a sheet that reading accepts, or its refusal with the cause.
 pub(crate) fn answer_listing(output: Output, bytes: &[u8]) -> Ending {
     match sheet::read(bytes) {
-        Issued::Refused(refusal) => refuse(refusal),
+        Issued::Refused(refusal) => refuse_for(refusal, causes::why(bytes)),
         Issued::Done(summary) => {
             if !output.hex {
                 return done_if(put_listing(output, bytes));

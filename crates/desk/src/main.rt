@@ -1,8 +1,8 @@
 // The command line of a designer at the desk: a command, its words, one answer. `desk help` lists the commands.
 //
-// An answer goes to standard output; a refusal, with its meaning, and the line on a bad word go to standard error, so that a sheet
-// or a list in a file has nothing but itself. A program has no exit status here: this one tells how it ended by a byte of its own
-// (`streams::end`), and the script `desk` at the top makes it an exit status.
+// An answer goes to standard output; a refusal, with its meaning and its cause, and the line on a bad word go to standard error, so
+// that a sheet or a list in a file has nothing but itself. A program has no exit status here: this one tells how it ended by a byte of
+// its own (`streams::end`), and the script `desk` at the top makes it an exit status.
 mod answers;
 mod by_line;
 mod command;
@@ -21,6 +21,7 @@ mod pages;
 mod refusing;
 mod replacing;
 mod sheet_commands;
+mod telling;
 mod values;
 
 use command::Command;
@@ -42,6 +43,7 @@ fn run(command: Command, places: &[usize; WORDS_ROOM], given: Given, output: Out
         Command::Show => sheet_commands::show(places, given, output),
         Command::List => sheet_commands::list(places, given, output),
         Command::Verify => sheet_commands::verify(places, given, output),
+        Command::Why => sheet_commands::why(places, given, output),
         Command::Matrices => sheet_commands::matrices(places, given, output),
         Command::ReadMatrices => matrix_text::read(places, given, output),
         Command::Times => sheet_commands::times(places, given, output),
@@ -96,6 +98,14 @@ fn refuse_option(i: usize, awaits: usize) -> Ending {
     }
 }
 
+// Closes what the command wrote to, and returns how it ended in the end. On a refusal `why` has answered, and no other command has.
+fn close(command: Command, output: Output, ending: Ending) -> Ending {
+    match command {
+        Command::Why => replacing::close_answer(output, ending),
+        _ => replacing::close_output(output, ending),
+    }
+}
+
 fn answer_given(places: &[usize; WORDS_ROOM], given: Given) -> Ending {
     let command = command_given(places, given);
     if given.from != 0 {
@@ -107,7 +117,7 @@ fn answer_given(places: &[usize; WORDS_ROOM], given: Given) -> Ending {
     if output.descriptor < 0 {
         return Ending::Failed;
     }
-    replacing::close_output(output, run(command, places, given, output))
+    close(command, output, run(command, places, given, output))
 }
 
 fn answer() -> Ending {

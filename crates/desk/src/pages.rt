@@ -25,6 +25,9 @@ fn put_sheet_commands(output: Output) -> bool {
             b"desk verify SHEET               whether a sheet is right: degree, F, element, complexity and grade;\n                                without SHEET, standard input\n",
         )
         && output.put(
+            b"desk why SHEET                  why a sheet is refused, in one sentence; without SHEET, standard input\n",
+        )
+        && output.put(
             b"desk normal SHEET VALUE..       the normal coordinates of elements; with - for VALUE, from standard input\n",
         )
         && output.put(
@@ -88,8 +91,11 @@ fn put_forms(output: Output) -> bool {
 
 fn put_endings(output: Output) -> bool {
     output.put(
-        b"\nA refusal is a line on standard error: refused NUMBER PLACE, and what it means.\n",
+        b"\nA refusal is a line on standard error: refused NUMBER PLACE, and what it means. With check, build, show and list\nthe cause of 2, 3, 5 and 10 follows alone on a second line, in decimal: for 2 the smallest divisor of F of degree\n1 or more; for 3 what x became; for 5 the smallest number above 0 whose set bits select conjugates that sum to\nzero; for 10 the record, the word conjugate, inverse or table, the stored number and the right one.\n",
     )
+        && output.put(
+            b"The sentence of why goes to standard output, and the exit status says whether the sheet is refused.\n",
+        )
         && output.put(
             b"Exit status: 0 done, 1 refused, 2 a word cannot be used, 3 could not run, read or write.\n",
         )
@@ -109,5 +115,5 @@ pub(crate) fn put_help(output: Output) -> Ending {
 
 // The one version number of the program, the C header and the Rust crate.
 pub(crate) fn put_version(output: Output) -> Ending {
-    done_if(output.put(b"desk 2.1.0\n"))
+    done_if(output.put(b"desk 3.0.0\n"))
 }

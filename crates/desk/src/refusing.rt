@@ -5,6 +5,7 @@ use super::complaints::say_word;
 use super::input::word_space;
 use super::options::VALUES_AT;
 use super::options::WORDS_ROOM;
+use super::output::Output;
 use gf2::degree_of;
 use refusals::Refusal;
 use streams::Ending;
@@ -13,30 +14,47 @@ use words::Word;
 // The refusal of a number with more bits than the degree.
 pub(crate) const TOO_LARGE: u8 = 4;
 
+// Who is told what a refusal means: standard error, or whoever asked for it as an answer.
+pub(crate) enum Listener {
+    Errors,
+    Answer(Output),
+}
+
+impl Listener {
+    fn tell(self, words: &[u8]) -> bool {
+        match self {
+            Listener::Errors => say(words),
+            Listener::Answer(output) => output.put(words),
+        }
+    }
+}
+
 // What document 01's table says of a refusal, and document 02 of 13. Refusal 14 has words of its own, in mismatch.rt. A number that
 // neither document has is told as such.
-fn say_meaning(number: u8) -> bool {
+pub(crate) fn tell_meaning(listener: Listener, number: u8) -> bool {
     match number {
-        1 => say(b"the degree of f is not 2 to 46"),
-        2 => say(b"a polynomial of smaller degree, other than 1, divides f"),
-        3 => say(b"squaring x as many times as the degree of f does not bring it back"),
-        4 => say(b"an element, a coordinate number or a range end has more bits than the degree"),
-        5 => say(b"the element is not normal"),
-        6 => say(b"the buffer is shorter than the sheet or the text"),
-        7 => say(b"the sheet's length is not 32 bytes times a count of 2 to 46"),
-        8 => say(
+        1 => listener.tell(b"the degree of f is not 2 to 46"),
+        2 => listener.tell(b"a polynomial of smaller degree, other than 1, divides f"),
+        3 => listener.tell(b"squaring x as many times as the degree of f does not bring it back"),
+        4 => listener.tell(
+            b"an element, a coordinate number or a range end has more bits than the degree",
+        ),
+        5 => listener.tell(b"the element is not normal"),
+        6 => listener.tell(b"the buffer is shorter than the sheet or the text"),
+        7 => listener.tell(b"the sheet's length is not 32 bytes times a count of 2 to 46"),
+        8 => listener.tell(
             b"the record at this place does not fit in: its degree, its row number or its polynomial",
         ),
-        9 => say(
+        9 => listener.tell(
             b"the record at this place has a polynomial or a row with more bits than the degree",
         ),
-        10 => say(
+        10 => listener.tell(
             b"the record at this place is not the one that the polynomial and the element give",
         ),
-        11 => say(b"the lists differ in length or have more than 4096 values"),
-        12 => say(b"the first of the range is greater than the last"),
-        13 => say(b"the divisor, or the number to invert, is zero"),
-        _ => say(b"a number that this program has no meaning for"),
+        11 => listener.tell(b"the lists differ in length or have more than 4096 values"),
+        12 => listener.tell(b"the first of the range is greater than the last"),
+        13 => listener.tell(b"the divisor, or the number to invert, is zero"),
+        _ => listener.tell(b"a number that this program has no meaning for"),
     }
 }
 
@@ -54,13 +72,15 @@ pub(crate) fn say_refused(number: u64, place: u64) -> bool {
     say(b"refused ") && say_number(number) && say(b" ") && say_number(place) && say(b": ")
 }
 
-// A refusal that no word of the command line stands behind.
+// The line on a refusal that no word of the command line stands behind.
+pub(crate) fn say_refusal(refusal: Refusal) -> bool {
+    say_refused(refusal.number as u64, refusal.place as u64)
+        && tell_meaning(Listener::Errors, refusal.number)
+        && say(b"\n")
+}
+
 pub(crate) fn refuse(refusal: Refusal) -> Ending {
-    refused_if(
-        say_refused(refusal.number as u64, refusal.place as u64)
-            && say_meaning(refusal.number)
-            && say(b"\n"),
-    )
+    refused_if(say_refusal(refusal))
 }
 
 // The end of a line on a number that is too large.
@@ -90,17 +110,23 @@ fn first_exceeding(places: &[usize; WORDS_ROOM], degree: u32) -> usize {
     places[VALUES_AT]
 }
 
-// A refusal of values that stand on the command line. One for a value that is too large names its word.
-pub(crate) fn refuse_words(refusal: Refusal, places: &[usize; WORDS_ROOM], degree: u32) -> Ending {
+// The line on a refusal of values that stand on the command line. One for a value that is too large names its word.
+pub(crate) fn say_words_refusal(
+    refusal: Refusal,
+    places: &[usize; WORDS_ROOM],
+    degree: u32,
+) -> bool {
     if refusal.number != TOO_LARGE {
-        return refuse(refusal);
+        return say_refusal(refusal);
     }
     let place = first_exceeding(places, degree);
-    refused_if(
-        say_refused(refusal.number as u64, refusal.place as u64)
-            && say_word(place)
-            && say_degree(degree),
-    )
+    say_refused(refusal.number as u64, refusal.place as u64)
+        && say_word(place)
+        && say_degree(degree)
+}
+
+pub(crate) fn refuse_words(refusal: Refusal, places: &[usize; WORDS_ROOM], degree: u32) -> Ending {
+    refused_if(say_words_refusal(refusal, places, degree))
 }
 
 // The refusal of a value that came by line and is too large. Its place in the list of all values counts from 0, its line from 1.

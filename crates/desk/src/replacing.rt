@@ -182,6 +182,14 @@ fn give_up(output: Output) {
     }
 }
 
+// The end of a command that has answered and is refused.
+fn finish_refused(output: Output) -> Ending {
+    match finish(output) {
+        Ending::Done => Ending::Refused,
+        _ => Ending::Failed,
+    }
+}
+
 // Closes what answers were written to, and returns how the command ended in the end.
 pub(crate) fn close_output(output: Output, ending: Ending) -> Ending {
     match ending {
@@ -198,5 +206,13 @@ pub(crate) fn close_output(output: Output, ending: Ending) -> Ending {
             give_up(output);
             Ending::Failed
         }
+    }
+}
+
+// The same for a command whose refusal is its answer: what it wrote is whole.
+pub(crate) fn close_answer(output: Output, ending: Ending) -> Ending {
+    match ending {
+        Ending::Refused => finish_refused(output),
+        _ => close_output(output, ending),
     }
 }

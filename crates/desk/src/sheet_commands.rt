@@ -1,4 +1,4 @@
-// The commands on one sheet: build, show, list, verify, matrices, times, inverse and quotient.
+// The commands on one sheet: build, show, list, verify, why, matrices, times, inverse and quotient.
 use super::answers::answer_value;
 use super::complaints::no_text;
 use super::complaints::wrong_count;
@@ -14,7 +14,8 @@ use super::matrix_text::answer_matrices;
 use super::options::Given;
 use super::options::WORDS_ROOM;
 use super::output::Output;
-use super::refusing::refuse_words;
+use super::telling::answer_why;
+use super::telling::refuse_words_for;
 use gf2::LIMIT;
 use gf2::degree_of;
 use libc::STDIN_FILENO;
@@ -51,7 +52,9 @@ fn answer_built(
 ) -> Ending {
     let mut buffer = [0u8; SHEET_ROOM];
     match sheet::build(f, element, &mut buffer) {
-        Issued::Refused(refusal) => refuse_words(refusal, places, degree_of(f)),
+        Issued::Refused(refusal) => {
+            refuse_words_for(refusal, places, degree_of(f), causes::why_build(f, element))
+        }
         Issued::Done(summary) => {
             let size = io::count((RECORD * summary.degree as usize) as isize, &buffer);
             answer_sheet(purpose, output, &buffer[..size])
@@ -91,6 +94,7 @@ pub(crate) fn show(places: &[usize; WORDS_ROOM], given: Given, output: Output) -
 enum Telling {
     Listing,
     Verdict,
+    Cause,
     Matrices,
 }
 
@@ -98,6 +102,7 @@ fn tell(telling: Telling, output: Output, bytes: &[u8]) -> Ending {
     match telling {
         Telling::Listing => answer_listing(output, bytes),
         Telling::Verdict => answer_verify(output, bytes),
+        Telling::Cause => answer_why(output, bytes),
         Telling::Matrices => answer_matrices(output, bytes),
     }
 }
@@ -137,6 +142,13 @@ pub(crate) fn verify(places: &[usize; WORDS_ROOM], given: Given, output: Output)
         return wrong_count(places[0], b"verify SHEET, or desk verify < SHEET");
     }
     read_and_tell(Telling::Verdict, places, given, output)
+}
+
+pub(crate) fn why(places: &[usize; WORDS_ROOM], given: Given, output: Output) -> Ending {
+    if given.words > 2 {
+        return wrong_count(places[0], b"why SHEET, or desk why < SHEET");
+    }
+    read_and_tell(Telling::Cause, places, given, output)
 }
 
 pub(crate) fn matrices(places: &[usize; WORDS_ROOM], given: Given, output: Output) -> Ending {
