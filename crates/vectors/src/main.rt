@@ -1,6 +1,6 @@
 // Runs document 01's "Small numbers to hold it against" and the complexities of source documents 000 and 001. The file stdout has
-// what those documents say, and for division, grades and matrices (document 02, §1, §3 and §4) numbers that follow from its sentences. By
-// theme:
+// what those documents say, and for division, grades, matrices and causes (document 02, §1, §3, §4 and §5) numbers that follow from its
+// sentences. By theme:
 //   complexities   the least complexity of small fields
 //   generators     the bases of 001's table 5
 //   sheets         sheets that are built, and elements that are refused
@@ -10,6 +10,7 @@
 //   searches       the searches at f = 19
 //   grades         the grades of the best, and both kinds at degree 18
 //   texts          the matrices of three sheets as text, and the ones of the best
+//   reasons        the causes of refusals 2, 5 and 10, the last for each row of a sheet
 //   records        the bytes of a record, and sheets that lost one
 mod checks;
 mod complexities;
@@ -18,6 +19,7 @@ mod divisions;
 mod generators;
 mod grades;
 mod printing;
+mod reasons;
 mod records;
 mod searches;
 mod sheets;
@@ -37,6 +39,7 @@ fn run() -> bool {
         && searches::run()
         && grades::run()
         && texts::run()
+        && reasons::run()
         && records::run()
         && finish_output()
 }

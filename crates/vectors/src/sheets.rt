@@ -6,7 +6,7 @@ use listing::LISTING_ROOM;
 use sheet::Issued;
 use sheet::RECORD;
 
-fn print_listing(sheet: &[u8]) -> bool {
+pub(crate) fn print_listing(sheet: &[u8]) -> bool {
     let mut text = [0u8; LISTING_ROOM];
     let end = listing::listing(sheet, &mut text);
     say(&text[..end])
