@@ -6,7 +6,7 @@
 --                                                     2, with 3, with 5
 --   read-shaped                                       reading refuses with none of 7, 8 and 9: the shape is right, and rebuilding refuses
 --   rebuild-divided, rebuild-strays, rebuild-dependent   with 2, with 3, with 5
---   rebuild-based, rebuild-differs                    with 10: f is accepted and the element normal; and what is left is the records
+--   rebuild-differs                                   with 10: the polynomial and the element have nothing to refuse, and a record differs
 --   operands-number, shape-number                     1 and 4, and 7, 8 and 9, by a test
 --
 -- Assumes nothing.

@@ -5,4 +5,4 @@ pub mod Differing
 pub mod Cases
 pub mod Reported
 pub mod True
-pub mod Named
+pub mod Operands

@@ -3,10 +3,11 @@
 --   SmallestDivisor f n d          d has a degree from 1 to n - 1 and divides f, and nothing of degree at least 1 that divides f is smaller
 --   FirstDifference sheet rebuilt d   d tells the first field in byte order of the first record that differs, what is stored there and what
 --                                  is right
+--   divisor-true, became-true, dependency-true, difference-true   what lies behind 2, 3, 5 and 10 is so
 --   True sheet c                   what the cause c says of a sheet and of reading's answer for it; `why-true`: the call tells such a cause
---   CheckTrue f c, BuildTrue f a c   the same of check and of build
+--   why-behind, shape-alone        the cause by reading's answer; 7, 8 and 9 have none beyond number and place
 --
--- The smallest set of conjugates is `Dependency` in `Rows` of `rows`.
+-- The smallest set of conjugates is `Dependency` in `Rows` of `rows`. Causes of check and build: `Operands`.
 -- Assumes nothing.
 use mathlib.Core.Path.{_≡_, refl, sym, ap, _∙_}
 use mathlib.Core.Logic.{inl, inr, ⊎-elim}
@@ -24,7 +25,6 @@ use Rattle.refusals.specs.Verdicts.{Verdict, clear, refuse, firstOf}
 use Rattle.refusals.specs.Answers.{refusalAt, answerOf}
 use Rattle.refusals.specs.declared.answer.Refusal.{Refusal}
 use Rattle.refusals.specs.Telling.{first-found, every-first}
-use Rattle.refusals.specs.declared.answer.Checked.the-variants as checked
 use Rattle.field.specs.Accepted.{divided, strays}
 use Rattle.field.specs.Divided.{Divisor}
 use Rattle.field.specs.Field.{squared}
@@ -68,7 +68,10 @@ pub record FirstDifference (sheet rebuilt : List ℕ) (d : Difference) : Type 0 
   -- and so is all before the field in its record
   pub front-before : (degreeIn sheet (d .place) ≡ degreeIn rebuilt (d .place)) × (rowIn sheet (d .place) ≡ rowIn rebuilt (d .place)) × (tailIn sheet (d .place) ≡ tailIn rebuilt (d .place))
   pub fields-before : (c : Field) → fieldNumber c < fieldNumber (d .field) → numberOf c (rowOf sheet (d .place)) ≡ numberOf c (rowOf rebuilt (d .place))
-  -- the stored number is the sheet's, the right one that of the sheet rebuilt, and they differ
+  -- it is not the one rebuilt
+  pub record-differs : recordAt sheet (d .place) ≡ recordAt rebuilt (d .place) → ⊥
+  -- the stored number is the sheet's, the right one that of the sheet rebuilt, and they differ: in a sheet of bytes, as every one is that is
+  -- lent. Lists of other numbers can differ and hold the same
   pub stored-is : d .stored ≡ numberOf (d .field) (rowOf sheet (d .place))
   pub right-is : d .right ≡ numberOf (d .field) (rowOf rebuilt (d .place))
   pub differs : Bytes sheet → d .stored ≡ d .right → ⊥
@@ -137,14 +140,16 @@ module _ (sheet : List ℕ) (z : Shaped sheet) (b : Based (polynomialIn sheet) (
   fields-before field.Table o field.Inverse h = o .1
   fields-before field.Table o field.Table h = absurd (omega arith)
 
+  other-record : recordAt sheet p ≡ recordAt (rebuiltFrom sheet) p → ⊥
+  other-record r =
+      not-both (same (recordAt sheet p) (recordAt (rebuiltFrom sheet) p)) (ap (λ (l : List ℕ). same (recordAt sheet p) l) (sym r) ∙ same-refl (recordAt sheet p)) (first .other)
+
   -- of bytes, a record whose rows are all right would be the one rebuilt
   field-differs : (c : Field) → FirstOf stored right c → Bytes sheet → numberOf c stored ≡ numberOf c right → ⊥
   unfolding FirstOf numberOf
   field-differs field.Conjugate o bytes t = o t
   field-differs field.Inverse o bytes t = o .1 t
-  field-differs field.Table o bytes t =
-      let r : recordAt sheet p ≡ recordAt (rebuiltFrom sheet) p = rows-right sheet z p place-lt b bytes (o .0) (o .1) t in
-      not-both (same (recordAt sheet p) (recordAt (rebuiltFrom sheet) p)) (ap (λ (l : List ℕ). same (recordAt sheet p) l) (sym r) ∙ same-refl (recordAt sheet p)) (first .other)
+  field-differs field.Table o bytes t = other-record (rows-right sheet z p place-lt b bytes (o .0) (o .1) t)
 
   pub difference-true : FirstDifference sheet (rebuiltFrom sheet) (differenceIn sheet p)
   unfolding differenceIn
@@ -156,6 +161,7 @@ module _ (sheet : List ℕ) (z : Shaped sheet) (b : Based (polynomialIn sheet) (
         records-before = λ j h. first .before j (omega arith) h;
         front-before = before-rows sheet z p place-lt b;
         fields-before = fields-before c o;
+        record-differs = other-record;
         stored-is = refl;
         right-is = refl;
         differs = field-differs c o;
@@ -223,11 +229,14 @@ module _ (sheet : List ℕ) where
       let b = shaped-based sheet (x .0) (d .0) in
       rw (behind 10 p e) (refuses 10 p e, (b, difference-true sheet (x .0) b p (d .1)))
 
+  -- what lies behind reading's refusal
+  pub why-behind : (r : Refusal) → readAnswer sheet ≡ issued.Refused r → whyAnswer sheet ≡ sheetCause sheet (r .number) (r .place)
+  unfolding readAnswer
+  why-behind r e = behind (r .number) (r .place) (refused-verdict (firstOf (readOrder sheet)) (summaryIn sheet) e)
+
   -- 7, 8 and 9 have no cause beyond their number and place
   pub shape-alone : (r : Refusal) → readAnswer sheet ≡ issued.Refused r → 7 ≤ r .number → r .number ≤ 9 → whyAnswer sheet ≡ cause.Refused r
-  unfolding readAnswer
-  shape-alone r e low high =
-      behind (r .number) (r .place) (refused-verdict (firstOf (readOrder sheet)) (summaryIn sheet) e) ∙ sym (sheet-alone sheet r low high)
+  shape-alone r e low high = why-behind r e ∙ sym (sheet-alone sheet r low high)
 
   of-shape : (k p : ℕ) → 7 ≤ k → k ≤ 9 → firstOf (readOrder sheet) ≡ refuse k p → True sheet (whyAnswer sheet)
   of-shape k p low high e = rw (shape-alone (refusalAt k p) (refuses k p e) low high) (refuses k p e, (low, high))

@@ -14,7 +14,9 @@ pub struct Part {
 }
 
 // The greatest common divisor of f, of degree n, and x^(2^i) + x, for the first i at which it is not 1. If it is 1 up to n/2, f is
-// irreducible, and the part is f. Both have the same smallest divisor, so only the part has to be split.
+// irreducible, and the part is f. Both have the same smallest divisor, so only the part has to be split. The check of f walks in the same
+// way (`squared_half` in `field`), and keeps whether it found something. Here and in `splitting` a square is a product: at these degrees it
+// takes no longer than a spread, and needs no table.
 pub fn lowest_part(f: u64, n: u32) -> Part
     requires { ⌜ (1 ≤ n) × Degree f n ⌝ }
     ensures { λ r. ⌜ Level (r .degree) (r .value) × (smallestDivisor (r .value) ≡ smallestDivisor f) ⌝ }

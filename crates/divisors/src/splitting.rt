@@ -11,7 +11,7 @@ use gf2::multiply;
 
 // The sum of the first i conjugates of a modulo g, of degree m. The square of such a sum has the conjugates that follow, and a is added
 // to them.
-fn conjugates_sum(g: u64, m: u32, i: u32, a: u64) -> u64
+fn first_conjugates_sum(g: u64, m: u32, i: u32, a: u64) -> u64
     requires { ⌜ Element g m a ⌝ }
     ensures { λ r. ⌜ r ≡ traceTo g m i a ⌝ }
 {
@@ -31,10 +31,10 @@ fn split(g: u64, m: u32, i: u32) -> u64
     ensures { λ r. ⌜ (2 ≤ r) × (r < g) × Divides r g ⌝ }
 {
     let mut k: u32 = 0;
-    let mut t = conjugates_sum(g, m, i, 1);
+    let mut t = first_conjugates_sum(g, m, i, 1);
     while t < 2 {
         k += 1;
-        t = conjugates_sum(g, m, i, power_of_x(k));
+        t = first_conjugates_sum(g, m, i, power_of_x(k));
     }
     greatest_common(g, t)
 }

@@ -9,6 +9,8 @@ use Prim.Native.Nat.{ℕ, _+_, _≤_, _<_}
 use native.Mathlib.Nat.{add-zero, add-assoc, zero-add}
 use native.Mathlib.Omega.{arith}
 use lib.ListN.{length, drop, set, length-append}
+use lib.Seq.{length-take-le}
+use Rattle.io.specs.Counts.{Counts}
 use Rattle.sheet.specs.Bytes.{pasted, pasted-none, pasted-length, pasted-next, pasted-set}
 
 pub record Put (start : List ℕ) (at : ℕ) (bytes text : List ℕ) (next : ℕ) : Type 0 where
@@ -42,3 +44,9 @@ put-mark {start} {at} {xs} p mark h = record {
   ends = rw (p .ends, length-append xs (mark ∷ [])) (omega arith);
   room = omega arith;
 }
+
+-- what is put counts the text's front, which a caller takes
+pub put-counted : {start : List ℕ} {at : ℕ} {bytes text : List ℕ} {next : ℕ} → Put start at bytes text next → Put start at bytes text next × Counts next text
+put-counted {start} {at} {bytes} {text} {next} p =
+    let h : next ≤ length text = omega (arith, p .room, put-length p) in
+    (p, (h, sym (length-take-le next text h)))

@@ -1,6 +1,7 @@
 // The line that tells the cause of a refusal (document 02, §5), put into a lent text.
 ghost use Prim.Native.Nat.{_+_, _≤_};
 ghost use lib.ListN.{length};
+ghost use Rattle.io.specs.Counts.{Counts};
 ghost use Rattle.listing.specs.Text.{fieldWord, differenceLine, causeLine};
 ghost use Rattle.listing.specs.Room.{fieldRoom, causeRoom};
 ghost use Rattle.listing.specs.Putting.{Put};
@@ -41,10 +42,12 @@ fn put_difference(text: &mut [u8], at: usize, difference: Difference) -> usize
     put_number(text, fourth, difference.right, NEWLINE)
 }
 
-// The line of a cause; nothing where the number and the place say all.
+// The line of a cause; nothing where the number and the place say all. The clause counted follows from the first; a caller that takes
+// the front of the text asks for it.
 pub fn put_cause(text: &mut [u8], at: usize, cause: Cause) -> usize
     requires { ⌜ at + causeRoom ≤ length (now text) ⌝ }
-    ensures { λ r. ⌜ Put (now (text .entry)) at (causeLine cause) (now (text .exit)) r ⌝ }
+    ensures put { λ r. ⌜ Put (now (text .entry)) at (causeLine cause) (now (text .exit)) r ⌝ }
+    ensures counted { λ r. ⌜ Counts r (now (text .exit)) ⌝ }
 {
     match cause {
         Cause::Accepted => at,

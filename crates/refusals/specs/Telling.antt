@@ -3,7 +3,8 @@
 --   first-found, found-first    a verdict refuses with the number and the place of the first rule that applies
 --   every-..                    what holds of every rule of an order holds of the one that is found
 --   part-passed                 an order in two parts: a refusal that the first part does not have
---   absent-lacks, rule-applies  a number that an order does not have, by a test; one that it has once
+--   Lacks k rs, absent-lacks    k is no number of the order rs; the same by a test, `absent`
+--   rule-applies                a number that an order has once
 --   listed-at-zero, ..-positive   the numbers of an order are its own, and none of them is 0
 --   told                        a call, by the number, the place and the values that it hands out
 --   report-told, value-told, checked-told   the same for a report, and for the two enums of this crate

@@ -2,7 +2,7 @@
 -- "Refusal numbers"): a record's number is its place.
 --
 --   OnShape, OnReading                      these numbers, each with its places
---   shape-listed, basis-listed, read-listed   every rule of the order has such a number and such a place
+--   shape-listed, basis-listed, differ-listed, read-listed   every rule of the order, or of a part of it, has such a number and place
 --
 -- Assumes nothing.
 use mathlib.Core.Path.{refl}

@@ -55,13 +55,13 @@ module _ (g m i : ℕ) (pre : Degree g m × Level i g × (i < m)) where
 m-lt : (s : tie.Start Inv-loop μ-loop) → s .args .m < 64
 m-lt s = degree-lt (s .args .g) (s .args .m) 64 (s .pre .0) (s .fits .g .fits)
 
-conjugates-sum-requires : tie.Need-conjugates-sum-requires Inv-loop μ-loop
-conjugates-sum-requires c κs = record { is-degree = c .pre .0; below = one-lt (c .args .m) (omega (arith, c .pre .2)) }
+first-conjugates-sum-requires : tie.Need-first-conjugates-sum-requires Inv-loop μ-loop
+first-conjugates-sum-requires c κs = record { is-degree = c .pre .0; below = one-lt (c .args .m) (omega (arith, c .pre .2)) }
 
 loop-holds : tie.Need-loop-holds Inv-loop μ-loop
 loop-holds c =
     let s = c .before in
-    start (s .args .g) (s .args .m) (s .args .i) (s .pre) (c .conjugates-sum .result) (c .conjugates-sum .ensures)
+    start (s .args .g) (s .args .m) (s .args .i) (s .pre) (c .first-conjugates-sum .result) (c .first-conjugates-sum .ensures)
 
 add-k : tie.Need-add-k Inv-loop μ-loop
 add-k c =
@@ -75,8 +75,8 @@ power-of-x-requires c κs =
     let s = l .before .before in
     omega (arith, l .loop .inv .0, m-lt s)
 
-conjugates-sum-requires-2 : tie.Need-conjugates-sum-requires-2 Inv-loop μ-loop
-conjugates-sum-requires-2 c κs =
+first-conjugates-sum-requires-2 : tie.Need-first-conjugates-sum-requires-2 Inv-loop μ-loop
+first-conjugates-sum-requires-2 c κs =
     let l = c .before .before in
     let s = l .before .before in
     record {
@@ -94,7 +94,7 @@ loop-again c =
     let x = c .before in
     let l = x .before .before in
     let s = l .before .before in
-    again (s .args .g) (s .args .m) (s .args .i) (s .pre) (l .loop .k) (l .loop .t) (l .loop .inv) (omega (arith, x .before .loop-test .taken)) (x .power-of-x .result) (x .power-of-x .ensures) (c .conjugates-sum2 .result) (c .conjugates-sum2 .ensures)
+    again (s .args .g) (s .args .m) (s .args .i) (s .pre) (l .loop .k) (l .loop .t) (l .loop .inv) (omega (arith, x .before .loop-test .taken)) (x .power-of-x .result) (x .power-of-x .ensures) (c .first-conjugates-sum2 .result) (c .first-conjugates-sum2 .ensures)
 
 greatest-common-requires : tie.Need-greatest-common-requires Inv-loop μ-loop
 greatest-common-requires c κs =
@@ -114,11 +114,11 @@ split-spec =
     (tie.spec
     Inv-loop
     μ-loop
-    conjugates-sum-requires
+    first-conjugates-sum-requires
     loop-holds
     add-k
     power-of-x-requires
-    conjugates-sum-requires-2
+    first-conjugates-sum-requires-2
     loop-less
     loop-again
     greatest-common-requires

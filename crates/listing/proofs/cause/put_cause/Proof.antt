@@ -3,7 +3,7 @@
 use native.Mathlib.Omega.{arith}
 use borrow.Author.Needs.{needs}
 use Rattle.listing.specs.Text.{causeLine}
-use Rattle.listing.specs.Putting.{put-none}
+use Rattle.listing.specs.Putting.{put-none, put-counted}
 use Rattle.listing.proofs.cause.put_cause.Statement.{statement}
 use Rattle.listing.proofs.cause.put_cause.Tie as tie
 
@@ -41,13 +41,13 @@ returns : tie.Need-returns
 unfolding causeLine
 returns c =
     let s = c .before .before .before in
-    rw (c .enum-told .given .1) (put-none _ (s .args .at) (omega (arith, s .pre)))
+    put-counted (rw (c .enum-told .given .1) (put-none _ (s .args .at) (omega (arith, s .pre))))
 
 returns-2 : tie.Need-returns-2
 unfolding causeLine
 returns-2 c =
     let s = c .before .before .before in
-    rw (c .enum-told2 .given .1) (put-none _ (s .args .at) (omega (arith, s .pre)))
+    put-counted (rw (c .enum-told2 .given .1) (put-none _ (s .args .at) (omega (arith, s .pre))))
 
 same-length : tie.Need-same-length
 same-length c = search needs
@@ -57,7 +57,7 @@ unfolding causeLine
 returns-3 c =
     let p = c .before .before in
     let k = p .before .before .before in
-    rw (k .cause .given .1) (p .put-number .ensures .0)
+    put-counted (rw (k .cause .given .1) (p .put-number .ensures .0))
 
 same-length-2 : tie.Need-same-length-2
 same-length-2 c = search needs
@@ -67,7 +67,7 @@ unfolding causeLine
 returns-4 c =
     let p = c .before .before in
     let k = p .before .before .before in
-    rw (k .cause2 .given .1) (p .put-number2 .ensures .0)
+    put-counted (rw (k .cause2 .given .1) (p .put-number2 .ensures .0))
 
 same-length-3 : tie.Need-same-length-3
 same-length-3 c = search needs
@@ -77,7 +77,7 @@ unfolding causeLine
 returns-5 c =
     let p = c .before .before in
     let k = p .before .before .before in
-    rw (k .cause3 .given .1) (p .put-number3 .ensures .0)
+    put-counted (rw (k .cause3 .given .1) (p .put-number3 .ensures .0))
 
 same-length-4 : tie.Need-same-length-4
 same-length-4 c = search needs
@@ -87,7 +87,7 @@ unfolding causeLine
 returns-6 c =
     let p = c .before .before in
     let k = p .before .before .before in
-    rw (k .cause4 .given .1) (p .put-difference .ensures)
+    put-counted (rw (k .cause4 .given .1) (p .put-difference .ensures))
 
 pub put-cause-spec : {M : Type 1} → statement M
 put-cause-spec =

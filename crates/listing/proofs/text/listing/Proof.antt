@@ -52,7 +52,7 @@ returns c =
     let y = p .before .before .before in
     let r = y .before .before in
     listed-refused (r .before .before .args .sheet .now) (y .refusal .given .0 .0) (sym (r .read .ensures .0) ∙ y .refusal .given .1)
-    (p .put-refused .ensures .0) (w .why .ensures .0) (c .put-cause .ensures)
+    (p .put-refused .ensures .0) (w .why .ensures .0) (c .put-cause .ensures .0)
 
 returns-2 : tie.Need-returns-2
 returns-2 c =

@@ -1,4 +1,4 @@
--- `divisors::splitting::conjugates_sum` meets its contract. The invariant: sum is the sum of the conjugates that are done. The measure is
+-- `divisors::splitting::first_conjugates_sum` meets its contract. The invariant: sum is the sum of the conjugates that are done. The measure is
 -- what is left of i. Assumes nothing.
 use mathlib.Core.Path.{_≡_, refl, ap, _∙_}
 use Prim.Native.Nat.{ℕ, _+_, _-_, _≤_}
@@ -8,8 +8,8 @@ use lib.Bits.{bitXor}
 use Rattle.gf2.specs.Poly.{_⊕_, mulMod, Degree}
 use Rattle.field.specs.Field.{traceTo}
 use Rattle.field.specs.Trace.{traceTo-lt, traceTo-square}
-use Rattle.divisors.proofs.splitting.conjugates_sum.Statement.{statement}
-use Rattle.divisors.proofs.splitting.conjugates_sum.Tie as tie
+use Rattle.divisors.proofs.splitting.first_conjugates_sum.Statement.{statement}
+use Rattle.divisors.proofs.splitting.first_conjugates_sum.Tie as tie
 
 abbrev Inv-loop : tie.InvT-loop
 Inv-loop g m i a sum₀ done₀ sum done = (done ≤ i) × (sum ≡ traceTo g m done a)
@@ -58,7 +58,7 @@ returns c =
     let s = l .before in
     all-done (s .args .g) (s .args .m) (l .loop .done) (s .args .i) (s .args .a) (l .loop .sum) (l .loop .inv .0) (c .loop-test .left) (l .loop .inv .1)
 
-pub conjugates-sum-spec : {M : Type 1} → statement M
-conjugates-sum-spec =
+pub first-conjugates-sum-spec : {M : Type 1} → statement M
+first-conjugates-sum-spec =
     tie.close
     (tie.spec Inv-loop μ-loop loop-holds multiply-requires add-done loop-less loop-again returns)
