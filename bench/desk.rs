@@ -1,10 +1,10 @@
 //! Times the calls of the desk's archive beside `plain`, the independent
 //! implementation, in one program.
 //!
-//! `desk calls` times the calls on numbers, sheets, lists and texts; `desk
-//! search 20` the searches, and gives each about so many seconds. Every line
-//! printed is a measurement or an answer; answers of one name are the same for
-//! every program that `bench/run` starts:
+//! `desk calls` times the calls on numbers, sheets, causes, lists and texts;
+//! `desk search 20` the searches, and gives each about so many seconds. Every
+//! line printed is a measurement or an answer; answers of one name are the same
+//! for every program that `bench/run` starts:
 //!
 //! ```text
 //! time NAME PROGRAM NANOSECONDS           of one call
@@ -13,10 +13,12 @@
 //! ```
 //!
 //! In `desk/`: `rounds` takes times, `inputs` draws what is asked, `calls`,
-//! `texts` and `searches` ask it.
+//! `causes`, `texts` and `searches` ask it.
 
 #[path = "desk/calls.rs"]
 mod calls;
+#[path = "desk/causes.rs"]
+mod causes;
 #[path = "desk/inputs.rs"]
 mod inputs;
 #[allow(dead_code)]

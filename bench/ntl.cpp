@@ -3,13 +3,14 @@
 //
 //   ntl calls            GF2E multiply and square, IterIrredTest, mat_GF2 inversion, and algorithm 3 with the test of f, which is
 //                        what the desk's build has to do; GF2E inv and div on normal coordinates, which are converted and back;
-//                        the text of all matrices from GF2E products of all conjugates
+//                        the text of all matrices from GF2E products of all conjugates; the smallest divisor by CanZass
 //   ntl search SECONDS   the four searches, each of the two ways in ntl/conjugates.h with about so many seconds
 //
 // In ntl/: rounds.h takes times, words.h turns NTL's numbers into words and back, basis.h is algorithm 3, conjugates.h and search.h
-// are algorithm 2, sheet.h converts, text.h writes texts.
+// are algorithm 2, sheet.h converts, text.h writes texts, divisors.h has the smallest divisor.
 #include "ntl/basis.h"
 #include "ntl/conjugates.h"
+#include "ntl/divisors.h"
 #include "ntl/rounds.h"
 #include "ntl/search.h"
 #include "ntl/sheet.h"
@@ -118,6 +119,33 @@ static void run_calls() {
     measure("invert", 2, [&](word) { return basis.invert() ? row(basis.conjugates, 0) : 0; });
 }
 
+// An irreducible polynomial of this degree, drawn as desk/causes.rs draws it.
+static GF2X drawn(long degree, Random &random) {
+    GF2X f;
+    do set(f, random.element(degree) | one << degree);
+    while (!IterIrredTest(f));
+    return f;
+}
+
+// The smallest divisors of the polynomials of desk/causes.rs, in the same order.
+static void run_causes() {
+    Random random{2};
+    std::vector<GF2X> two(64), three(64), squares(64);
+    for (GF2X &f : two) f = drawn(23, random) * drawn(23, random);
+    for (GF2X &f : three) f = drawn(15, random) * drawn(15, random) * drawn(15, random);
+    for (GF2X &f : squares) f = sqr(drawn(23, random));
+    const std::vector<GF2X> powers = {polynomial(one << 46), polynomial((one << 46) + 1)};
+    const std::vector<GF2X> slowest = {polynomial(10489921) * polynomial(11014547)};
+    const auto ask = [](const char *name, const std::vector<GF2X> &of) {
+        measure(name, of.size(), [&](word i) { return smallest_divisor(of[i % of.size()]); });
+    };
+    ask("why-two", two);
+    ask("why-three", three);
+    ask("why-square", squares);
+    ask("why-power", powers);
+    ask("why-slowest", slowest);
+}
+
 // Division of normal coordinates: they become elements, and NTL's answer normal coordinates again.
 static void run_divisions(word f) {
     GF2E::init(polynomial(f));
@@ -214,6 +242,7 @@ int main(int count, char **words) {
     if (count == 2 && !std::strcmp(words[1], "calls")) {
         std::printf("version ntl %s\n", NTL_VERSION);
         run_calls();
+        run_causes();
         for (word f : by_degree) {
             run_divisions(f);
             run_texts(f);

@@ -2,7 +2,8 @@
 # in several passes has the median of their times. What a program does not do, or did not run, is a dash.
 
 BEGIN {
-    calls = "multiply square check-irreducible check-product build read convert-one times-46 inverse-46 quotient-46"
+    calls = "multiply square check-irreducible check-product build read why-accepted why-differing why-dependent why-power"
+    calls = calls " why-square why-three why-two why-slowest convert-one times-46 inverse-46 quotient-46"
     calls = calls " convert-4096 convert-4096-singly write_matrices-46 read_matrices-46"
     label["multiply"] = "multiply"
     label["square"] = "square"
@@ -10,6 +11,14 @@ BEGIN {
     label["check-product"] = "check, f a product of two of degree 23"
     label["build"] = "build"
     label["read"] = "read"
+    label["why-accepted"] = "why, nothing refused"
+    label["why-differing"] = "why, the last table row wrong"
+    label["why-dependent"] = "why, the element not normal"
+    label["why-power"] = "why, f = x^46 and x^46+1 by turns"
+    label["why-square"] = "why, f a square of one of degree 23"
+    label["why-three"] = "why, f a product of three of degree 15"
+    label["why-two"] = "why, f a product of two of degree 23"
+    label["why-slowest"] = "why, f the slowest product of two of degree 23"
     label["convert-one"] = "convert one"
     label["times-46"] = "times"
     label["inverse-46"] = "inverse"
@@ -176,6 +185,7 @@ END {
     time_goal("check, f a product: at most 4 times NTL's time", "check-product", "ntl", 4)
     time_goal("convert 4,096: at most a tenth of 4,096 single conversions in plain", "convert-4096-singly", "plain", 0.1)
     own_goal("inverse: at most 4 times the time of `times` in this run", "inverse-46", "times-46", 4)
+    alone_goal("why, f the slowest product of two of degree 23: at most 100 µs", "why-slowest", 1e5)
     alone_goal("write_matrices: at most 1 ms", "write_matrices-46", 1e6)
     alone_goal("read_matrices: at most 1 ms", "read_matrices-46", 1e6)
     for (i = 2; i <= count; i++) {

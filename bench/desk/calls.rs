@@ -1,5 +1,6 @@
 //! The calls on numbers, sheets and lists, each beside plain's.
 
+use crate::causes;
 use crate::inputs::{Inputs, F, LOWER, OPERANDS, PRODUCT, SHEETS};
 use crate::rounds::{fold, pair};
 use crate::texts;
@@ -11,6 +12,7 @@ pub fn run() {
     products(&inputs);
     checks();
     sheets(&inputs);
+    causes::run(&inputs);
     conversions(&inputs);
     lists(&inputs);
     through_table(&inputs);

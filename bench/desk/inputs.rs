@@ -6,7 +6,7 @@ use crate::random::Random;
 use sabrentuglio::{raw, MAX_LIST, RECORD_LENGTH};
 
 /// The degree of most inputs, which stays where the desk learns higher ones.
-const DEGREE: u32 = 46;
+pub const DEGREE: u32 = 46;
 
 /// x^46 + x + 1, irreducible.
 pub const F: u64 = (1 << DEGREE) + 3;
