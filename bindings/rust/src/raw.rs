@@ -53,7 +53,7 @@ pub struct Cause {
     /// The place that goes with the number.
     pub place: u64,
     /// For 2 the smallest divisor of f, for 3 what x became, for 5 the smallest
-    /// number whose set bits select conjugates that sum to zero; else 0.
+    /// number above 0 whose set bits select conjugates that sum to zero; else 0.
     pub cause: u64,
     /// For 10 the field that differs: 1 conjugate, 2 inverse, 3 table; else 0.
     pub field: u64,

@@ -4,16 +4,19 @@
 --   left-start, left-done      where it starts and ends
 --   left-degree                d can be moved up to the highest coefficient of left; `moved-degree`: there it is
 --   left-turn, left-less       a turn, and what is left is less
+--   quotient-unique            there is one quotient alone
 --
 -- Assumes nothing.
 use mathlib.Core.Path.{_≡_, sym, ap, _∙_}
+use mathlib.Core.Logic.{⊎-elim}
 use Prim.Native.Nat.{ℕ, _+_, _-_, _*_, _^_, _≤_, _<_}
 use native.Mathlib.Omega.{arith}
+use lib.Pow.{pow-pos}
 use Rattle.gf2.specs.Poly.{_⊕_, product, degree, Degree, Divides}
-use Rattle.gf2.specs.Numbers.{pow-next}
-use Rattle.gf2.specs.Sum.{zero-⊕, ⊕-zero, ⊕-comm, ⊕-assoc, ⊕-cancel}
+use Rattle.gf2.specs.Numbers.{order, pow-next}
+use Rattle.gf2.specs.Sum.{zero-⊕, ⊕-zero, ⊕-comm, ⊕-assoc, ⊕-cancel, ⊕-self, ⊕-eq-zero}
 use Rattle.gf2.specs.Product.{product-zero-l, product-comm, product-⊕-l, product-power}
-use Rattle.gf2.specs.Degrees.{degree-is, degree-mono, degree-shift}
+use Rattle.gf2.specs.Degrees.{degree-is, degree-mono, degree-shift, degree-product}
 use Rattle.gf2.specs.Remainder.{reduce-large, reduce-lt}
 use Rattle.gf2.specs.Divisors.{divides-⊕, divides-le}
 
@@ -56,3 +59,15 @@ module _ (a d m : ℕ) (deg : Degree d m) where
           let r : left ⊕ d * 2 ^ k < 2 ^ n =
           rw (reduce-large (d * 2 ^ k) n left (deg-left .low)) at (reduce-lt (d * 2 ^ k) n moved-degree left h) in
           omega (arith, deg-left .low)
+
+-- there is one quotient alone
+pub quotient-unique : (d q r : ℕ) → 0 < d → product q d ≡ product r d → q ≡ r
+quotient-unique d q r pos e =
+    let s : ℕ = q ⊕ r in
+    let z : product s d ≡ 0 = product-⊕-l q r d ∙ ap (λ (x : ℕ). x ⊕ product r d) e ∙ ⊕-self (product r d) in
+    ⊎-elim
+    (λ (u : s < 1). ⊕-eq-zero q r (omega arith))
+    (λ (u : 1 ≤ s).
+    let low = degree-product s d (degree s) (degree d) (degree-is s u) (degree-is d pos) .low in
+    absurd (omega (arith, pow-pos (degree s + degree d))))
+    (order s 1)

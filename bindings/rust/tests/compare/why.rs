@@ -61,6 +61,15 @@ fn of_number(number: u64, cause: u64) -> Cause {
     }
 }
 
+/// A refusal that has no cause beyond its number and place.
+fn of_shape(number: u64, place: usize) -> Cause {
+    Cause {
+        number,
+        place: place as u64,
+        ..Cause::default()
+    }
+}
+
 /// A sheet of f and an element with right heads and any other rows.
 fn headed(f: u64, element: u64, random: &mut Random) -> Vec<u8> {
     let n = degree(f).expect("f is not zero");
@@ -198,13 +207,14 @@ fn first_counts(pair: &mut Pair, random: &mut Random, n: u32, basis: &Basis, som
     let numbers = [&sheet, &basis.sheet].map(|sheet| number_in(sheet, record, column));
     let expected = of_field(record, field, numbers[0], numbers[1]);
     assert_eq!(pair.why(&sheet), expected);
-    // Before 10 come 5, 2, 9, 8 and 7, whatever the fields are.
+    // Before 10 come 5, 9, 8 and 7, whatever the fields are.
     put(&mut sheet, 0, CONJUGATE, 0);
     assert_eq!(pair.why(&sheet), of_number(5, 1));
     let last = sheet.len() - 1;
-    assert_eq!(pair.why(&sheet[..last]).number, 7);
+    let place = n as usize - 1;
+    assert_eq!(pair.why(&sheet[..last]), of_shape(7, 0));
     sheet[last] = 0xff;
-    assert_eq!(pair.why(&sheet).number, 9);
+    assert_eq!(pair.why(&sheet), of_shape(9, place));
     sheet[last + 1 - RECORD_LENGTH] ^= 1;
-    assert_eq!(pair.why(&sheet).number, 8);
+    assert_eq!(pair.why(&sheet), of_shape(8, place));
 }
