@@ -1,7 +1,9 @@
--- A polynomial g of level i and of a degree m above i is split by T, the sum of the first i conjugates, at some power of x below x ^ m.
+-- A polynomial g of level i and of a degree m above i is split by T, the sum of the first i conjugates, at some odd power of x below x ^ m.
 --
 --   BitsTo g m i k          T is 0 or 1 at every element below 2 ^ k
---   bits-start, bits-next   where the search for a power starts, and one power more
+--   bits-start, bits-next   where the search for a power starts, at x, and one power more
+--   sum-of-square           T is the same at an element and at its square
+--   bits-even               an even power is the square of a lower one, at which T is 0 or 1: so it is there, and the search passes it over
 --   level-no-bits           T is not 0 or 1 at every element: g has two different irreducible divisors p and q. At the multiples of p
 --                           T would be 0, and these are all elements modulo q, where T is not 0 everywhere
 --   trace-splits            if T is neither 0 nor 1, its greatest common divisor with g is neither 1 nor g
@@ -9,21 +11,21 @@
 -- Assumes nothing.
 use mathlib.Core.Path.{_≡_, refl, sym, ap, ap₂, _∙_}
 use mathlib.Core.Logic.{⊎-elim}
-use Prim.Native.Nat.{ℕ, zero, suc, _+_, _-_, _*_, _^_, _≤_, _<_}
+use Prim.Native.Nat.{ℕ, zero, suc, _+_, _-_, _*_, _/_, _%_, _^_, _≤_, _<_}
 use native.Mathlib.Nat.{pow-suc}
 use native.Mathlib.Omega.{arith}
-use lib.Pow.{pow-pos}
+use lib.Pow.{pow-pos, pow-add, pow-lt}
 use Rattle.gf2.specs.Poly.{_⊕_, product, degree, rem, mulMod, Degree, Divides}
 use Rattle.gf2.specs.Numbers.{order, zero-one-more, pow-next, bitCases}
 use Rattle.gf2.specs.Sum.{⊕-comm, ⊕-self, ⊕-zero, ⊕-cancel, ⊕-lt, ⊕-eq-zero, ⊕-top}
-use Rattle.gf2.specs.Product.{product-zero-l, product-one-l, product-one-r, product-assoc, product-comm}
+use Rattle.gf2.specs.Product.{product-zero-l, product-one-l, product-one-r, product-assoc, product-comm, product-power}
 use Rattle.gf2.specs.Degrees.{degree-is, degree-pos}
-use Rattle.gf2.specs.Remainder.{rem-small, rem-zero, rem-lt, rem-⊕, rem-product-r, rem-multiple}
+use Rattle.gf2.specs.Remainder.{rem-small, rem-zero, rem-lt, rem-⊕, rem-product-r, rem-multiple, mulMod-zero-r}
 use Rattle.gf2.specs.Divisors.{divides-trans, divides-rem, rem-divides, divides-pos, divides-le}
 use Rattle.gf2.specs.Euclid.{GreatestCommon}
 use Rattle.field.specs.Field.{squared, traceTo, Irreducible}
-use Rattle.field.specs.Ring.{mulMod-comm, mulMod-⊕-r, mulMod-one-l, one-lt}
-use Rattle.field.specs.Frobenius.{squared-zero}
+use Rattle.field.specs.Ring.{mulMod-comm, mulMod-⊕-r, mulMod-one-l, mulMod-square-⊕, one-lt}
+use Rattle.field.specs.Frobenius.{squared-zero, squared-bit, squared-mulMod}
 use Rattle.field.specs.Trace.{traceTo-⊕, traceTo-lt, traceTo-square}
 use Rattle.field.specs.ConjugateSums.{conjugateSum, conjugateSum-zero, conjugateSum-⊕, conjugateSum-power, conjugateSum-not-zero}
 use Rattle.field.specs.CommonDivisors.{rem-through, squared-through}
@@ -31,7 +33,7 @@ use Rattle.divisors.specs.Smallest.{smallestDivisor, Least, smallest-is,
 use Rattle.divisors.specs.Ideals.{coprime-divides, divides-irreducible, inverse-modulo}
 use Rattle.divisors.specs.Level.{Level, level-part, level-fixes, level-degree, level-squarefree}
 
--- ---- the sum of the first k conjugates: modulo a divisor; at 0; by a number that selects conjugates
+-- ---- the sum of the first k conjugates: modulo a divisor; at 0 and 1; at a square; by a number that selects conjugates
 
 module _ (f n p m : ℕ) (deg : Degree p m) (v : Divides p f) where
   traceTo-through : (k a : ℕ) → rem p m (traceTo f n k a) ≡ traceTo p m k (rem p m a)
@@ -45,6 +47,20 @@ module _ (f n : ℕ) (deg : Degree f n) where
   unfolding traceTo
   traceTo-zero zero = refl
   traceTo-zero (suc k) = ap₂ _⊕_ (traceTo-zero k) (squared-zero f n deg k) ∙ ⊕-zero 0
+
+  -- at 0 and 1 every conjugate is the element itself
+  traceTo-bit : 2 ≤ n → (k d : ℕ) → d < 2 → traceTo f n k d < 2
+  unfolding traceTo
+  traceTo-bit big zero d h = omega arith
+  traceTo-bit big (suc k) d h =
+      ⊕-lt 1 (traceTo f n k d) (squared f n k d) (traceTo-bit big k d h) (rw (squared-bit f n deg big k d h) h)
+
+  -- the sum for a square is the square of the sum
+  traceTo-of-square : (k a : ℕ) → traceTo f n k (mulMod f n a a) ≡ mulMod f n (traceTo f n k a) (traceTo f n k a)
+  unfolding traceTo
+  traceTo-of-square zero a = sym (mulMod-zero-r f n 0)
+  traceTo-of-square (suc k) a =
+      ap₂ _⊕_ (traceTo-of-square k a) (squared-mulMod f n deg k a a) ∙ sym (mulMod-square-⊕ f n deg (traceTo f n k a) (squared f n k a))
 
   traceTo-sum : (k a : ℕ) → traceTo f n k a ≡ conjugateSum f n (2 ^ k - 1) a
   unfolding traceTo
@@ -67,8 +83,8 @@ abbrev pub BitsTo : (g m i k : ℕ) → Type 0
 BitsTo g m i k = (a : ℕ) → a < 2 ^ k → traceTo g m i a < 2
 
 module _ (g m : ℕ) (deg : Degree g m) (i : ℕ) where
-  pub bits-start : BitsTo g m i 0
-  bits-start a h = let z : a ≡ 0 = omega arith in rw (z, traceTo-zero g m deg i) (omega arith)
+  pub bits-start : 2 ≤ m → BitsTo g m i 1
+  bits-start big a h = traceTo-bit g m deg big i a h
 
   pub bits-next : (k : ℕ) → BitsTo g m i k → traceTo g m i (2 ^ k) < 2 → BitsTo g m i (k + 1)
   bits-next k bits top a h =
@@ -81,6 +97,37 @@ module _ (g m : ℕ) (deg : Degree g m) (i : ℕ) where
       let e : a ≡ 2 ^ k ⊕ b = sym (⊕-top k b hb ∙ omega arith) in
       rw (e, traceTo-⊕ g m deg i (2 ^ k) b) (⊕-lt 1 (traceTo g m i (2 ^ k)) (traceTo g m i b) top (bits b hb)))
       (order a (2 ^ k))
+
+-- ---- T at squares
+
+module _ (i g m : ℕ) (l : Level i g) (deg : Degree g m) (big : 2 ≤ m) where
+  -- T is its own square
+  trace-idempotent : (a : ℕ) → a < 2 ^ m → mulMod g m (traceTo g m i a) (traceTo g m i a) ≡ traceTo g m i a
+  trace-idempotent a h =
+      let t : ℕ = traceTo g m i a in
+      let s : ℕ = mulMod g m t t in
+      let e : s ⊕ a ≡ t ⊕ a = traceTo-square g m deg i a ∙ ap (λ (x : ℕ). t ⊕ x) (level-fixes i g l m deg big a h) in
+      sym (⊕-cancel a s) ∙ ap (λ (x : ℕ). a ⊕ x) (⊕-comm a s ∙ e ∙ ⊕-comm t a) ∙ ⊕-cancel a t
+
+  sum-of-square : (a : ℕ) → a < 2 ^ m → traceTo g m i (mulMod g m a a) ≡ traceTo g m i a
+  sum-of-square a h = traceTo-of-square g m deg i a ∙ trace-idempotent a h
+
+  square-of-power : (j : ℕ) → j + j < m → mulMod g m (2 ^ j) (2 ^ j) ≡ 2 ^ (j + j)
+  unfolding mulMod
+  square-of-power j h = rw (product-power (2 ^ j) j, ← pow-add 2 j j) (rem-small g m (2 ^ (j + j)) (pow-lt h))
+
+  -- from an odd power to the next
+  pub bits-even : (k : ℕ) → k % 2 ≡ 1 → k + 1 < m → BitsTo g m i (k + 1) → BitsTo g m i (k + 2)
+  bits-even k odd below bits =
+      let j : ℕ = (k + 1) / 2 in
+      let s : j + j ≡ k + 1 = omega arith in
+      let n : k + 1 + 1 ≡ k + 2 = omega arith in
+      let hj : j < k + 1 = omega arith in
+      let hm : j < m = omega arith in
+      let e : traceTo g m i (2 ^ (k + 1)) ≡ traceTo g m i (2 ^ j) =
+      ap (λ (x : ℕ). traceTo g m i (2 ^ x)) (sym s) ∙ ap (traceTo g m i) (sym (square-of-power j (omega arith)))
+      ∙ sum-of-square (2 ^ j) (pow-lt hm) in
+      rw n at (bits-next g m deg i (k + 1) bits (rw e (bits (2 ^ j) (pow-lt hj))))
 
 -- ---- not at all elements
 
@@ -155,14 +202,6 @@ module _ (i g m : ℕ) (s : Level i g) (deg : Degree g m) (bits : BitsTo g m i m
 -- ---- the greatest common divisor
 
 module _ (i g m : ℕ) (l : Level i g) (deg : Degree g m) (big : 2 ≤ m) (a : ℕ) (h : a < 2 ^ m) where
-  -- T is its own square
-  trace-idempotent : mulMod g m (traceTo g m i a) (traceTo g m i a) ≡ traceTo g m i a
-  trace-idempotent =
-      let t : ℕ = traceTo g m i a in
-      let s : ℕ = mulMod g m t t in
-      let e : s ⊕ a ≡ t ⊕ a = traceTo-square g m deg i a ∙ ap (λ (x : ℕ). t ⊕ x) (level-fixes i g l m deg big a h) in
-      sym (⊕-cancel a s) ∙ ap (λ (x : ℕ). a ⊕ x) (⊕-comm a s ∙ e ∙ ⊕-comm t a) ∙ ⊕-cancel a t
-
   -- a multiple of g below 2 ^ m
   multiple-small : (x : ℕ) → x < 2 ^ m → Divides g x → x ≡ 0
   multiple-small x lt v = sym (rem-small g m x lt) ∙ divides-rem g m x deg v
@@ -175,7 +214,7 @@ module _ (i g m : ℕ) (l : Level i g) (deg : Degree g m) (big : 2 ≤ m) (a : �
       let pos : 0 < g = omega (arith, l .two) in
       let z : rem g m (product t (t ⊕ 1)) ≡ 0 =
       mulMod-⊕-r g m deg t t 1
-      ∙ ap₂ _⊕_ (rw (← e) at trace-idempotent) (mulMod-comm g m deg t 1 ∙ mulMod-one-l g m deg t lt) ∙ ⊕-self t in
+      ∙ ap₂ _⊕_ (rw (← e) at (trace-idempotent i g m l deg big a h)) (mulMod-comm g m deg t 1 ∙ mulMod-one-l g m deg t lt) ∙ ⊕-self t in
       let le : d ≤ g = divides-le d g pos (c .left) in
       let not-all : d ≡ g → ⊥ = λ u. let z : t ≡ 0 = multiple-small t lt (rw u at (c .right)) in omega arith in
       let not-one : d ≡ 1 → ⊥ = λ u.

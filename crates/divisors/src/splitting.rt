@@ -24,16 +24,17 @@ fn first_conjugates_sum(g: u64, m: u32, i: u32, a: u64) -> u64
     sum
 }
 
-// A divisor of g, of degree m, other than 1 and g: the greatest common divisor of g and such a sum, the first for 1, x, x^2, .. that is
-// neither 0 nor 1. There is one below x^m, so the loop needs no bound.
+// A divisor of g, of degree m, other than 1 and g: the greatest common divisor of g and such a sum, the first for x, x^3, x^5, .. that is
+// neither 0 nor 1. There is one below x^m, so the loop needs no bound. Even powers give nothing new and are passed over: modulo g an element
+// and its square have the same sum, so the sum for x^2 is that for x, and the sum for x^6 that for x^3. The sum for 1 is always 0 or 1.
 fn split(g: u64, m: u32, i: u32) -> u64
     requires { ⌜ Degree g m × Level i g × (i < m) ⌝ }
     ensures { λ r. ⌜ (2 ≤ r) × (r < g) × Divides r g ⌝ }
 {
-    let mut k: u32 = 0;
-    let mut t = first_conjugates_sum(g, m, i, 1);
+    let mut k: u32 = 1;
+    let mut t = first_conjugates_sum(g, m, i, 2);
     while t < 2 {
-        k += 1;
+        k += 2;
         t = first_conjugates_sum(g, m, i, power_of_x(k));
     }
     greatest_common(g, t)
