@@ -9,10 +9,9 @@ use sabrentuglio::{raw, RECORD_LENGTH};
 /// others.
 const DRAWN: usize = 64;
 
-/// Two irreducible polynomials of degree 23. No f of degree 46 or less takes the
-/// desk more turns of products than theirs: to tell the two apart it needs the
-/// sums of conjugates of all powers of x from 1 to x^45. It finds the smaller
-/// one last.
+/// Two irreducible polynomials of degree 23. To tell the two apart the desk needs
+/// the sums of conjugates of all odd powers of x up to x^45, the most there can
+/// be. It finds the smaller one last.
 const SLOWEST: [u64; 2] = [10_489_921, 11_014_547];
 
 /// Asks about sheets of each kind, from those of the inputs and of drawn

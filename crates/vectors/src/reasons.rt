@@ -38,8 +38,8 @@ fn print_small() -> bool {
 //   70368744178689 = 8388641 * 8388641: x^46 + x^10 + 1 is the square of x^23 + x^5 + 1
 //   70368744177664 = x^46
 //   70368744177665 = x^46 + 1, the square of x^23 + 1, which x + 1 divides
-// Of the first two the code finds the smallest factor last. To split the first it needs every power of x from 1 to x^45, the most there can
-// be at this degree.
+// Of the first two the code finds the smallest factor last. To split the first it needs every odd power of x up to x^45, the most there
+// can be at this degree.
 fn print_large() -> bool {
     print_divisor(71469603571027)
         && print_divisor(36637906278055)
