@@ -43,6 +43,7 @@
 
 mod answer;
 mod calls;
+mod cause;
 mod lists;
 mod matrices;
 pub mod raw;
@@ -57,11 +58,12 @@ pub use calls::{
     build, check, inverse, list_to_normal, list_to_polynomial, multiply, quotient, read, search,
     square, times, to_normal, to_polynomial, trace,
 };
+pub use cause::{Cause, RecordField};
 pub use matrices::{matrices_size, read_matrices, write_matrices};
 pub use refusal::{Reason, Refusal, UnknownNumber};
 pub use rows::{Row, Rows};
 pub use sheet::Sheet;
-pub use why::{why, Cause, RecordField};
+pub use why::why;
 pub use words::{number_of, polynomial_of, Polynomial, UnclearWord};
 
 /// The version of the crate, which is that of the whole product.

@@ -7,8 +7,8 @@
 //!
 //! In `compare/`: `random` draws numbers, `fields` finds polynomials and
 //! sheets, `factors` makes polynomials of known factors, `damage` spoils sheets
-//! and `texts` texts, `lent` watches lent memory, `pair` asks both sides, `tally`
-//! counts; the others are the groups.
+//! and `texts` texts, `lent` watches lent memory, `flat` has answers in one form,
+//! `pair` asks both sides, `tally` counts; the others are the groups.
 
 #[path = "compare/building.rs"]
 mod building;
@@ -22,6 +22,8 @@ mod dividing;
 mod factors;
 #[path = "compare/fields.rs"]
 mod fields;
+#[path = "compare/flat.rs"]
+mod flat;
 #[path = "compare/lengths.rs"]
 mod lengths;
 #[path = "compare/lent.rs"]

@@ -1,9 +1,10 @@
 -- The first record that differs from the one rebuilt, and the first field in it.
 --
---   Differing sheet rebuilt i n p   of the records from i on, n of them, p is the first that differs; `differing-first`: so it is where 10 is refused
---   differ-place                    its place is a record's
---   record-held                     a record of bytes is what its six numbers say
---   rows-right                      of a sheet of good shape: a record whose three rows are right is the one rebuilt
+--   Differing sheet rebuilt i k p   of k records from i on, p is the first that differs
+--   differing-first, differ-place   so it is where 10 is refused, and its place is a record's
+--   Bytes, record-held              entries below 256; a record of such is what its six numbers say
+--   placed, before-rows             what 8 leaves of a sheet of good shape: all before the rows is right, and as it is rebuilt
+--   rows-right                      a record whose three rows are right too is the one rebuilt
 --
 -- Assumes nothing.
 use mathlib.Core.Path.{_≡_, refl, sym, ap, _∙_}

@@ -35,8 +35,8 @@ fn rebuilt_cause(sheet: &[u8], refusal: Refusal) -> Cause
     Cause::Differs(difference_of(place, row_at(sheet, place), right))
 }
 
-// Whether a refusal of reading speaks of the shape.
-fn is_of_shape(number: u8) -> bool
+// Whether a refusal of reading speaks of the shape. After one that does not, the shape is right.
+pub fn is_of_shape(number: u8) -> bool
     ensures { λ r. ⌜ r ≡ (leb 7 number && leb number 9) ⌝ }
 {
     7 <= number && number <= 9

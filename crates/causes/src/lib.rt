@@ -7,6 +7,7 @@ pub use answer::Cause;
 pub use answer::Difference;
 pub use answer::Field;
 pub use answer::field_number;
+pub use calls::is_of_shape;
 pub use calls::why;
 pub use calls::why_build;
 pub use calls::why_check;

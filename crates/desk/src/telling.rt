@@ -11,6 +11,7 @@ use super::refusing::tell_meaning;
 use causes::Cause;
 use causes::Difference;
 use causes::Field;
+use causes::is_of_shape;
 use gf2::degree_of;
 use listing::CAUSE_ROOM;
 use listing::put_cause;
@@ -60,11 +61,11 @@ fn names_of(bytes: &[u8]) -> Named
     }
 }
 
-// The same of any sheet. One that 7, 8 or 9 refuses for its shape names nothing that a sentence could speak of, and has zeros.
+// The same of any sheet. One that is refused for its shape names nothing that a sentence could speak of, and has zeros.
 fn names_in(bytes: &[u8]) -> Named {
     match sheet::read(bytes) {
         Issued::Refused(refusal) => {
-            if 7 <= refusal.number && refusal.number <= 9 {
+            if is_of_shape(refusal.number) {
                 return Named { f: 0, element: 0 };
             }
             names_of(bytes)

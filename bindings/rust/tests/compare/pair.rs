@@ -4,6 +4,7 @@
 //! Compared are number, place and every value, also on a refusal, and the last
 //! state of all that was lent.
 
+use crate::flat::{cause, found, issued, value};
 use crate::lent::Lent;
 use crate::tally::{Call, Tally};
 use sabrentuglio::raw;
@@ -21,46 +22,6 @@ pub struct Pair {
     pub tally: Tally,
     seed: u64,
     asked: usize,
-}
-
-fn value(answer: raw::Value) -> plain::Value {
-    plain::Value {
-        number: answer.number,
-        place: answer.place,
-        value: answer.value,
-    }
-}
-
-fn issued(answer: raw::Issued) -> plain::Issued {
-    plain::Issued {
-        number: answer.number,
-        place: answer.place,
-        degree: answer.degree,
-        complexity: answer.complexity,
-        grade: answer.grade,
-    }
-}
-
-fn cause(answer: raw::Cause) -> plain::Cause {
-    plain::Cause {
-        number: answer.number,
-        place: answer.place,
-        cause: answer.cause,
-        field: answer.field,
-        stored: answer.stored,
-        right: answer.right,
-    }
-}
-
-fn found(answer: raw::Found) -> plain::Found {
-    plain::Found {
-        number: answer.number,
-        found: answer.found,
-        element: answer.element,
-        complexity: answer.complexity,
-        grade: answer.grade,
-        count: answer.count,
-    }
 }
 
 /// Bytes in hex, for a message.

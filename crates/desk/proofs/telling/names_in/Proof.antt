@@ -1,15 +1,12 @@
 -- `desk::telling::names_in` meets its contract: a sheet that reading accepts has a good shape, and so has one that it refuses with a
 -- number outside 7 to 9. Assumes nothing.
 use mathlib.Core.Path.{sym, _∙_}
-use mathlib.Core.Logic.{_⊎_, inl, inr, ⊎-elim}
-use Prim.Native.Nat.{_<_}
 use borrow.Author.Needs.{needs}
-use borrow.Author.Tests.{leb-false}
 use Rattle.refusals.specs.Verdicts.{firstOf}
 use Rattle.sheet.specs.Orders.{readOrder}
 use Rattle.sheet.specs.Answers.{summaryIn, readAnswer}
 use Rattle.sheet.specs.Answered.{done-shaped, refused-verdict}
-use Rattle.causes.specs.Behind.{read-shaped}
+use Rattle.causes.specs.Behind.{shape-number, read-shaped}
 use Rattle.desk.proofs.telling.names_in.Statement.{statement}
 use Rattle.desk.proofs.telling.names_in.Tie as tie
 
@@ -18,6 +15,9 @@ read-requires c κs = search needs
 
 enum-known-refusal : tie.Need-enum-known-refusal
 enum-known-refusal c = search needs
+
+is-of-shape-requires : tie.Need-is-of-shape-requires
+is-of-shape-requires c κs = search needs
 
 returns : tie.Need-returns
 returns c = search needs
@@ -29,8 +29,7 @@ names-of-requires c κs =
     let r = k .before .before in
     let sheet = r .before .before .args .bytes .now in
     let refusal = k .refusal .given .0 .0 in
-    let far : (refusal .number < 7) ⊎ (9 < refusal .number) =
-    ⊎-elim (λ w. inr (leb-false (refusal .number) 9 (w .2 .left))) (λ w. inl (w .left)) (c .if1 .came) in
+    let far = shape-number (refusal .number) .1 (sym (c .before .is-of-shape .ensures) ∙ c .if1 .left) in
     read-shaped sheet (refusal .number) (refusal .place) (refused-verdict (firstOf (readOrder sheet)) (summaryIn sheet) (sym (r .read .ensures .0) ∙ k .refusal .given .1)) far .0
 
 enum-told : tie.Need-enum-told
@@ -53,6 +52,7 @@ names-in-spec =
     (tie.spec
     read-requires
     enum-known-refusal
+    is-of-shape-requires
     returns
     names-of-requires
     enum-told
