@@ -1,8 +1,9 @@
 -- What the four field calls answer, as functions of their inputs: the case of the enum, and document 01's numbers for it.
+-- Document 02, §6: multiplication, squaring and trace "take any 64-bit operand and answer for its remainder modulo f", which is `element f a`.
 -- Definitions alone.
 -- Assumes nothing.
 use Prim.Native.Nat.{ℕ}
-use Rattle.gf2.specs.Poly.{degree, mulMod}
+use Rattle.gf2.specs.Poly.{degree, rem, mulMod}
 use Rattle.refusals.specs.Verdicts.{firstOf}
 use Rattle.refusals.specs.Answers.{Report, reportOf, valueOf, checkedOf}
 use Rattle.refusals.specs.declared.answer.Value.{Value}
@@ -10,23 +11,27 @@ use Rattle.refusals.specs.declared.answer.Checked.{Checked}
 use Rattle.field.specs.Field.{trace}
 use Rattle.field.specs.Refusals.{multiplyOrder, squareOrder, traceOrder, checkOrder}
 
+-- "its remainder modulo f": the element that a word stands for
+abbrev pub element : (f a : ℕ) → ℕ
+element f a = rem f (degree f) a
+
 unfoldable pub multiplyAnswer : (f a b : ℕ) → Value
-multiplyAnswer f a b = valueOf (firstOf (multiplyOrder f a b)) (mulMod f (degree f) a b)
+multiplyAnswer f a b = valueOf (firstOf (multiplyOrder f)) (mulMod f (degree f) (element f a) (element f b))
 
 unfoldable pub multiplyReport : (f a b : ℕ) → Report
-multiplyReport f a b = reportOf (firstOf (multiplyOrder f a b)) (mulMod f (degree f) a b)
+multiplyReport f a b = reportOf (firstOf (multiplyOrder f)) (mulMod f (degree f) (element f a) (element f b))
 
 unfoldable pub squareAnswer : (f a : ℕ) → Value
-squareAnswer f a = valueOf (firstOf (squareOrder f a)) (mulMod f (degree f) a a)
+squareAnswer f a = valueOf (firstOf (squareOrder f)) (mulMod f (degree f) (element f a) (element f a))
 
 unfoldable pub squareReport : (f a : ℕ) → Report
-squareReport f a = reportOf (firstOf (squareOrder f a)) (mulMod f (degree f) a a)
+squareReport f a = reportOf (firstOf (squareOrder f)) (mulMod f (degree f) (element f a) (element f a))
 
 unfoldable pub traceAnswer : (f a : ℕ) → Value
-traceAnswer f a = valueOf (firstOf (traceOrder f a)) (trace f (degree f) a)
+traceAnswer f a = valueOf (firstOf (traceOrder f)) (trace f (degree f) (element f a))
 
 unfoldable pub traceReport : (f a : ℕ) → Report
-traceReport f a = reportOf (firstOf (traceOrder f a)) (trace f (degree f) a)
+traceReport f a = reportOf (firstOf (traceOrder f)) (trace f (degree f) (element f a))
 
 unfoldable pub checkAnswer : (f : ℕ) → Checked
 checkAnswer f = checkedOf (firstOf (checkOrder f))

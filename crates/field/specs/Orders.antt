@@ -8,13 +8,13 @@ use mathlib.Core.List.{List, [], _∷_}
 use Prim.Native.Nat.{ℕ, _^_, _≤_, _<_}
 use native.Mathlib.Omega.{arith}
 use lib.Dec.{ltb}
-use borrow.Author.Tests.{ltb-false, leb-false, lt-leb}
+use borrow.Author.Tests.{ltb-false, leb-false, lt-leb, le-leb}
 use Rattle.gf2.specs.Poly.{degree}
 use Rattle.gf2.specs.Numbers.{order}
 use Rattle.gf2.specs.Truth.{or-false}
 use Rattle.gf2.specs.Degrees.{degree-is, degree-zero}
 use Rattle.gf2.specs.Limit.{limit}
-use Rattle.refusals.specs.Verdicts.{clear, refuse, firstOf}
+use Rattle.refusals.specs.Verdicts.{Rule, clear, refuse, firstOf}
 use Rattle.refusals.specs.Orders.{first-applies, first-passes, first-none, first-clear}
 use Rattle.field.specs.Accepted.{degreeOutside, divided, strays, InRange, Operand}
 use Rattle.field.specs.Refusals.{tooLarge, anyTooLarge, degreeRule, elementRule, divisorRule, returnRule, elementOrder, operandOrder, fieldOrder}
@@ -30,6 +30,10 @@ in-range f n en e =
     let p : 0 < f = ⊎-elim (λ (u : 0 < f). u) (λ (u : f ≤ 0). let z : f ≡ 0 = omega arith in absurd (omega (arith, ap degree z ∙ degree-zero))) (order 0 f) in
     rw en (record { two = l; most = h; is-degree = degree-is f p })
 
+-- what condition 1 leaves, whatever an order asks after it
+pub degree-judged : (f n : ℕ) → n ≡ degree f → (rules : List Rule) → firstOf (degreeRule f ∷ rules) ≡ clear → InRange f n
+degree-judged f n en rules e = in-range f n en (first-clear (degreeRule f) rules e .0)
+
 -- ---- condition 4
 
 pub not-too-large : (n a : ℕ) → tooLarge n a ≡ false → a < 2 ^ n
@@ -39,6 +43,10 @@ not-too-large n a e = leb-false (2 ^ n) a e
 pub small-enough : (n a : ℕ) → a < 2 ^ n → tooLarge n a ≡ false
 unfolding tooLarge
 small-enough n a h = lt-leb (2 ^ n) a h
+
+pub large-enough : (n a : ℕ) → 2 ^ n ≤ a → tooLarge n a ≡ true
+unfolding tooLarge
+large-enough n a h = le-leb (2 ^ n) a h
 
 module _ (n : ℕ) (values : List ℕ) where
   pub element-large : anyTooLarge n values ≡ true → firstOf (elementOrder n values) ≡ refuse 4 0

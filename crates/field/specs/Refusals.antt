@@ -1,15 +1,16 @@
--- The refusal table of document 01: the rows that speak of a polynomial and of elements, and the orders of the four field calls.
+-- The refusal table of document 01: the rows that speak of a polynomial and of elements, and the orders of the field calls. "4 leaves the
+-- orders of the three field calls" that have operands (document 02, §6); the check of f never had it.
 -- Definitions alone.
 --
 --   ..Rule         the rows 1 to 4
 --   ..Order        the orders of the calls, and three parts of orders:
 --   elementOrder   4 alone
---   operandOrder   1, then 4: what every call on a polynomial and elements begins with
+--   operandOrder   1, then 4: what every call on a polynomial and candidates or range ends begins with
 --   fieldOrder     2, then 3: what every call that needs an accepted f tests
 --
 -- Assumes nothing.
 use mathlib.Core.Bool.{Bool, false, _||_}
-use mathlib.Core.List.{List, [], _∷_, _++_}
+use mathlib.Core.List.{List, [], _∷_}
 use Prim.Native.Nat.{ℕ, _^_}
 use lib.Dec.{leb}
 use Rattle.gf2.specs.Poly.{degree}
@@ -37,7 +38,8 @@ abbrev pub anyTooLarge : (n : ℕ) → List ℕ → Bool
 anyTooLarge n [] = false
 anyTooLarge n (a ∷ values) = tooLarge n a || anyTooLarge n values
 
--- "an element, coordinate number or range end is 2^n or more", where the values are no list of the caller's: place 0
+-- "an element, coordinate number or range end is 2^n or more", where the values are no list of the caller's: place 0. Since §6 an element
+-- here is a candidate for a basis: "Normal coordinates, candidates and range ends must still be below 2^n."
 abbrev pub elementRule : (n : ℕ) → List ℕ → Rule
 elementRule n values = record { number = 4; place = 0; applies = anyTooLarge n values }
 
@@ -52,16 +54,16 @@ operandOrder f values = degreeRule f ∷ elementOrder (degree f) values
 abbrev pub fieldOrder : (f : ℕ) → List Rule
 fieldOrder f = divisorRule f ∷ returnRule f ∷ []
 
--- "Multiply, square: 1, 4."
-abbrev pub multiplyOrder : (f a b : ℕ) → List Rule
-multiplyOrder f a b = operandOrder f (a ∷ b ∷ [])
+-- "Multiply, square: 1, 4." without 4
+abbrev pub multiplyOrder : (f : ℕ) → List Rule
+multiplyOrder f = degreeRule f ∷ []
 
-abbrev pub squareOrder : (f a : ℕ) → List Rule
-squareOrder f a = operandOrder f (a ∷ [])
+abbrev pub squareOrder : (f : ℕ) → List Rule
+squareOrder f = degreeRule f ∷ []
 
--- "Trace: 1, 4, 2, 3."
-abbrev pub traceOrder : (f a : ℕ) → List Rule
-traceOrder f a = operandOrder f (a ∷ []) ++ fieldOrder f
+-- "Trace: 1, 4, 2, 3." without 4
+abbrev pub traceOrder : (f : ℕ) → List Rule
+traceOrder f = degreeRule f ∷ fieldOrder f
 
 -- "Check of f: 1, 2, 3."
 abbrev pub checkOrder : (f : ℕ) → List Rule

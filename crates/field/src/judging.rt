@@ -5,7 +5,7 @@ ghost use Prim.Native.Nat.{_<_};
 ghost use Rattle.gf2.specs.Spread.{SpreadTable};
 ghost use Rattle.refusals.specs.Verdicts.{firstOf};
 ghost use Rattle.refusals.specs.Answers.{checkedOf};
-ghost use Rattle.field.specs.Refusals.{elementOrder, operandOrder, traceOrder};
+ghost use Rattle.field.specs.Refusals.{degreeRule, elementOrder, operandOrder, checkOrder};
 use super::accepted::degree_outside;
 use super::accepted::field_verdict;
 use super::accepted::too_large;
@@ -27,7 +27,7 @@ pub fn elements_verdict(n: u32, a: u64, b: u64) -> Checked
     Checked::Done
 }
 
-// 1, then 4 for two operands.
+// 1, then 4 for two numbers.
 pub fn operands_verdict(f: u64, a: u64, b: u64) -> Checked
     ensures { λ r. ⌜ r ≡ checkedOf (firstOf (operandOrder f (a ∷ b ∷ []))) ⌝ }
 {
@@ -37,21 +37,30 @@ pub fn operands_verdict(f: u64, a: u64, b: u64) -> Checked
     elements_verdict(degree_of(f), a, b)
 }
 
-// 1, then 4 for one operand: it is judged as the same operand given twice.
+// 1, then 4 for one number: it is judged as the same number given twice.
 pub fn operand_verdict(f: u64, a: u64) -> Checked
     ensures { λ r. ⌜ r ≡ checkedOf (firstOf (operandOrder f (a ∷ []))) ⌝ }
 {
     operands_verdict(f, a, a)
 }
 
-// 1, 4, 2, 3.
-pub fn trace_verdict(table: &[u16; 256], f: u64, a: u64) -> Checked
-    requires { ⌜ SpreadTable (now table) ⌝ }
-    ensures { λ r. ⌜ r ≡ checkedOf (firstOf (traceOrder f a)) ⌝ }
+// 1 alone: all that a call asks which takes any words as its operands.
+pub fn degree_verdict(f: u64) -> Checked
+    ensures { λ r. ⌜ r ≡ checkedOf (firstOf (degreeRule f ∷ [])) ⌝ }
 {
-    let operand = operand_verdict(f, a);
-    match operand {
-        Checked::Refused(refusal) => Checked::Refused(refusal),
-        Checked::Done => field_verdict(table, f, degree_of(f)),
+    if degree_outside(f) {
+        return refused(1);
     }
+    Checked::Done
+}
+
+// 1, 2, 3.
+pub fn check_verdict(table: &[u16; 256], f: u64) -> Checked
+    requires { ⌜ SpreadTable (now table) ⌝ }
+    ensures { λ r. ⌜ r ≡ checkedOf (firstOf (checkOrder f)) ⌝ }
+{
+    if degree_outside(f) {
+        return refused(1);
+    }
+    field_verdict(table, f, degree_of(f))
 }

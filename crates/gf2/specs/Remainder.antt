@@ -10,7 +10,7 @@ use native.Mathlib.Omega.{arith}
 use lib.Arith.{bin-ind}
 use lib.Pow.{pow-pos}
 use borrow.Author.Tests.{lt-ltb, le-ltb}
-use Rattle.gf2.specs.Poly.{_⊕_, product, reduce, rem, mulMod, Degree}
+use Rattle.gf2.specs.Poly.{_⊕_, product, reduce, rem, mulMod, Degree, Element}
 use Rattle.gf2.specs.Numbers.{bitCases, order, mod-two-lt, double-half, double-even, pow-next}
 use Rattle.gf2.specs.Sum.{⊕-half, ⊕-odd, ⊕-comm, zero-⊕, ⊕-zero, ⊕-self, ⊕-lt, ⊕-lt-next, ⊕-shr, ⊕-one-one, ⊕-assoc, ⊕-four, ⊕-cancel, ⊕-double, ⊕-digit, low-apart, bit-⊕-mul}
 use Rattle.gf2.specs.Product.{digits-zero, digits-step, product-zero-l, product-zero-r, product-one-l, product-step, product-step-r, product-comm, product-⊕-l, product-double-l, product-power}
@@ -141,6 +141,10 @@ module _ (f n : ℕ) (deg : Degree f n) where
       go (inl p) = rw p (simp (rem-zero, zero-mul))
       go (inr p) = rw p (simp one-mul)
 
+  -- what was reduced is an element
+  pub rem-element : (a : ℕ) {x : ℕ} → x ≡ rem f n a → Element f n x
+  rem-element a e = rw e (record { is-degree = deg; below = rem-lt a })
+
   -- ---- the operands of a product may be reduced first
 
   pub rem-product-r : (a b : ℕ) → rem f n (product a (rem f n b)) ≡ rem f n (product a b)
@@ -153,6 +157,14 @@ module _ (f n : ℕ) (deg : Degree f n) where
 
   pub rem-product-l : (a b : ℕ) → rem f n (product (rem f n a) b) ≡ rem f n (product a b)
   rem-product-l a b = rw (product-comm (rem f n a) b, product-comm a b) (rem-product-r b a)
+
+  pub mulMod-rem-r : (a b : ℕ) → mulMod f n a (rem f n b) ≡ mulMod f n a b
+  unfolding mulMod
+  mulMod-rem-r a b = rem-product-r a b
+
+  pub mulMod-rem-l : (a b : ℕ) → mulMod f n (rem f n a) b ≡ mulMod f n a b
+  unfolding mulMod
+  mulMod-rem-l a b = rem-product-l a b
 
   -- a part may be reduced before it is moved up
   pub rem-shift : (a k b : ℕ) → rem f n (rem f n a * 2 ^ k ⊕ b) ≡ rem f n (a * 2 ^ k ⊕ b)

@@ -50,3 +50,14 @@ pub fn remainder(f: u64, n: u32, width: u32, y: u64) -> u64
     let up = 64 - n;
     raised(f << up, width, y, up) >> up
 }
+
+// The element that a word stands for modulo f, of degree n: its remainder. An element is returned as it is, so that no turn is spent on it.
+pub fn element_of(f: u64, n: u32, word: u64) -> u64
+    requires { ⌜ Degree f n ⌝ }
+    ensures { λ r. ⌜ r ≡ rem f n word ⌝ }
+{
+    if word >> n == 0 {
+        return word;
+    }
+    remainder(f, n, 64, word)
+}

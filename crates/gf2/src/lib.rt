@@ -8,6 +8,7 @@ mod squaring;
 
 pub use degree::LIMIT;
 pub use degree::degree_of;
+pub use division::element_of;
 pub use division::picked;
 pub use euclid::greatest_common;
 pub use multiplication::multiply;

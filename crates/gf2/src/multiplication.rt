@@ -1,9 +1,9 @@
 // Multiplication modulo a polynomial: by x, and by any polynomial, whose coefficients are taken from the top down as the multiplier cell
 // takes them.
 ghost use mathlib.Core.Path.{_≡_};
-ghost use Rattle.gf2.specs.Poly.{rem, mulMod, Degree, Element};
+ghost use Rattle.gf2.specs.Poly.{mulMod, Element};
+use super::division::element_of;
 use super::division::picked;
-use super::division::remainder;
 use super::division::times_x;
 
 // x times a modulo f, of degree n: a is moved up one place, and if that brings up x^n, adding f takes it away. It is one step, and
@@ -16,17 +16,6 @@ pub fn multiply_by_x(f: u64, n: u32, a: u64) -> u64
     moved ^ picked(moved >> n, f)
 }
 
-// b modulo f. An element is returned as it is, so that no turn is spent on it.
-fn element_of(f: u64, n: u32, b: u64) -> u64
-    requires { ⌜ Degree f n ⌝ }
-    ensures { λ r. ⌜ r ≡ rem f n b ⌝ }
-{
-    if b >> n == 0 {
-        return b;
-    }
-    remainder(f, n, 64, b)
-}
-
 // The product of a and b modulo f, of degree n. The first operand and the sum are kept at the top of the word, for `times_x`.
 pub fn multiply(f: u64, n: u32, a: u64, b: u64) -> u64
     requires { ⌜ Element f n a ⌝ }
@@ -36,7 +25,8 @@ pub fn multiply(f: u64, n: u32, a: u64, b: u64) -> u64
     let k = (64 - n) % 64;
     let low = f << k;
     let high = a << k;
-    let mut rest = element_of(f, n, b) << k;
+    let element = element_of(f, n, b);
+    let mut rest = element << k;
     let mut added = picked(rest >> 63, high);
     let mut sum: u64 = 0;
     let mut left = n;

@@ -3,18 +3,18 @@
 use mathlib.Core.Path.{ap, _∙_}
 use Prim.Native.Nat.{ℕ}
 use borrow.Author.Needs.{needs}
-use Rattle.gf2.specs.Poly.{mulMod}
+use Rattle.gf2.specs.Poly.{rem, mulMod}
 use Rattle.refusals.specs.Verdicts.{firstOf}
 use Rattle.refusals.specs.Answered.{judged-clear, judged-refused, judged-done, value-promised}
 use Rattle.refusals.specs.declared.answer.Value.the-variants as value
 use Rattle.field.specs.Refusals.{squareOrder}
 use Rattle.field.specs.Answers.{squareAnswer, squareReport}
-use Rattle.field.specs.Orders.{operand-judged}
+use Rattle.field.specs.Orders.{degree-judged}
 use Rattle.field.proofs.calls.square.Statement.{statement}
 use Rattle.field.proofs.calls.square.Tie as tie
 
-operand-verdict-requires : tie.Need-operand-verdict-requires
-operand-verdict-requires c κs = search needs
+degree-verdict-requires : tie.Need-degree-verdict-requires
+degree-verdict-requires c κs = search needs
 
 enum-known-verdict : tie.Need-enum-known-verdict
 enum-known-verdict c = search needs
@@ -29,16 +29,14 @@ squared-requires : tie.Need-squared-requires
 squared-requires c κs =
     let v = c .before .before .before in
     let s = v .before in
-    operand-judged (s .args .f) (c .degree-of .result) (s .args .a) (c .degree-of .ensures)
-    (judged-clear (firstOf (squareOrder (s .args .f) (s .args .a))) (v .operand-verdict .ensures) (c .before .enum-told .given .1))
+    degree-judged (s .args .f) (c .degree-of .result) (c .degree-of .ensures) _ (judged-clear (firstOf (squareOrder (s .args .f))) (v .degree-verdict .ensures) (c .before .enum-told .given .1))
 
 returns : tie.Need-returns
 unfolding squareAnswer squareReport
 returns c =
     let v = c .before .before .before in
     let s = v .before in
-    value-promised (firstOf (squareOrder (s .args .f) (s .args .a))) _
-    (judged-refused value.Refused _ _ (v .operand-verdict .ensures) (c .before .verdict .given .1))
+    value-promised (firstOf (squareOrder (s .args .f))) _ (judged-refused value.Refused _ _ (v .degree-verdict .ensures) (c .before .verdict .given .1))
 
 returns-2 : tie.Need-returns-2
 unfolding squareAnswer squareReport
@@ -46,15 +44,16 @@ returns-2 c =
     let d = c .before in
     let v = d .before .before .before in
     let s = v .before in
-    value-promised (firstOf (squareOrder (s .args .f) (s .args .a))) _
-    (ap value.Done (c .squared .ensures ∙ ap (λ (n : ℕ). mulMod (s .args .f) n (s .args .a) (s .args .a)) (d .degree-of .ensures))
-    ∙ judged-done value.Refused _ _ (v .operand-verdict .ensures) (d .before .enum-told .given .1))
+    let f = s .args .f in
+    value-promised (firstOf (squareOrder f)) _
+    (ap value.Done (c .squared .ensures ∙ ap (λ (n : ℕ). mulMod f n (rem f n (s .args .a)) (rem f n (s .args .a))) (d .degree-of .ensures))
+    ∙ judged-done value.Refused _ _ (v .degree-verdict .ensures) (d .before .enum-told .given .1))
 
 pub square-spec : {M : Type 1} → statement M
 square-spec =
     tie.close
     (tie.spec
-    operand-verdict-requires
+    degree-verdict-requires
     enum-known-verdict
     enum-told
     degree-of-requires

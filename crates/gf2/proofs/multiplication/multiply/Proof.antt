@@ -9,24 +9,24 @@ use native.Mathlib.Omega.{arith}
 use borrow.Author.Needs.{needs}
 use lib.Bits.{bitXor}
 use lib.Pow.{pow-pos}
-use Rattle.gf2.specs.Poly.{_⊕_, reduce, rem, mulMod, Degree}
+use Rattle.gf2.specs.Poly.{_⊕_, reduce, rem, mulMod}
 use Rattle.gf2.specs.Numbers.{order}
 use Rattle.gf2.specs.Degrees.{degree-lt}
-use Rattle.gf2.specs.Remainder.{rem-lt, rem-product-r, mulMod-zero-r}
+use Rattle.gf2.specs.Remainder.{rem-lt, mulMod-rem-r, mulMod-zero-r}
 use Rattle.gf2.specs.Steps.{top-coefficient, rest-turn, mulMod-turn}
 use Rattle.gf2.specs.Raised.{raised-degree, mulMod-lowered}
 use Rattle.gf2.proofs.multiplication.multiply.Statement.{statement}
 use Rattle.gf2.proofs.multiplication.multiply.Tie as tie
 
 abbrev Inv-loop : tie.InvT-loop
-Inv-loop f n a b k low high rest₀ added₀ sum₀ left₀ rest added sum left =
+Inv-loop f n a b k low high element rest₀ added₀ sum₀ left₀ rest added sum left =
     (left ≤ 64)
     × (rest ≡ rem f n b * 2 ^ (64 - left) % 2 ^ 64)
     × (added ≡ rest / 2 ^ 63 * high)
     × (sum ≡ mulMod (2 ^ 64 + low) 64 high (rem f n b / 2 ^ left))
 
 abbrev μ-loop : tie.MeasureT-loop
-μ-loop f n a b k low high rest₀ added₀ sum₀ left₀ rest added sum left = left
+μ-loop f n a b k low high element rest₀ added₀ sum₀ left₀ rest added sum left = left
 
 -- an element moved up to the top of the word; for n = 0 it is 0
 start : (n e r : ℕ) → n < 64 → e < 2 ^ n → r ≡ e → r * 2 ^ ((64 - n) % 64) % 2 ^ 64 ≡ e * 2 ^ (64 - n) % 2 ^ 64
@@ -43,11 +43,6 @@ start n e r small l p =
 
 nothing : (g high e n : ℕ) → e < 2 ^ n → 0 ≡ mulMod g 64 high (e / 2 ^ n)
 nothing g high e n l = sym (ap (mulMod g 64 high) (div-eq-of-lt l) ∙ mulMod-zero-r g 64 high)
-
--- b may be reduced first
-of-element : (f n a b : ℕ) → Degree f n → mulMod f n a (rem f n b) ≡ mulMod f n a b
-unfolding mulMod
-of-element f n a b deg = rem-product-r f n deg a b
 
 module _ (b left rest : ℕ) (some : 1 ≤ left) (most : left ≤ 64) (er : rest ≡ b * 2 ^ (64 - left) % 2 ^ 64) where
   moved : rest * 2 % 2 ^ 64 ≡ b * 2 ^ (64 - (left - 1)) % 2 ^ 64
@@ -146,7 +141,7 @@ returns c =
     let none : l .loop .left ≡ 0 = omega (arith, c .loop-test .left) in
     mulMod-lowered (s .args .f) (s .args .n) (s .args .a) e (s .pre .is-degree) (s .pre .below) (word s) _ (l .loop .sum) refl
     (l .loop .inv .3 ∙ ap (mulMod _ 64 _) (ap (λ (i : ℕ). e / 2 ^ i) none ∙ div-one e))
-    ∙ of-element (s .args .f) (s .args .n) (s .args .a) (s .args .b) (s .pre .is-degree)
+    ∙ mulMod-rem-r (s .args .f) (s .args .n) (s .pre .is-degree) (s .args .a) (s .args .b)
 
 pub multiply-spec : {M : Type 1} → statement M
 multiply-spec =

@@ -1,4 +1,4 @@
--- `gf2::multiplication::element_of` meets its contract: if nothing of b stands from x ^ n upward, b is its own remainder.
+-- `gf2::division::element_of` meets its contract: if nothing of a word stands from x ^ n upward, it is its own remainder.
 -- Assumes nothing.
 use mathlib.Core.Path.{_≡_, sym}
 use Prim.Native.Nat.{ℕ, _*_, _/_, _^_, _<_}
@@ -8,8 +8,8 @@ use borrow.Author.Needs.{needs}
 use lib.Pow.{pow-pos}
 use Rattle.gf2.specs.Degrees.{degree-lt}
 use Rattle.gf2.specs.Remainder.{rem-small}
-use Rattle.gf2.proofs.multiplication.element_of.Statement.{statement}
-use Rattle.gf2.proofs.multiplication.element_of.Tie as tie
+use Rattle.gf2.proofs.division.element_of.Statement.{statement}
+use Rattle.gf2.proofs.division.element_of.Tie as tie
 
 nothing-above : (n b : ℕ) → b / 2 ^ n ≡ 0 → b < 2 ^ n
 nothing-above n b e = let l : b < 1 * 2 ^ n = div-lt-iff-lt-mul (pow-pos n) .0 (omega arith) in omega arith
@@ -20,7 +20,7 @@ shr-if1 c = degree-lt (c .args .f) (c .args .n) 64 (c .pre) (c .fits .f .fits)
 returns : tie.Need-returns
 returns c =
     let s = c .before in
-    sym (rem-small (s .args .f) (s .args .n) (s .args .b) (nothing-above (s .args .n) (s .args .b) (c .if1 .taken)))
+    sym (rem-small (s .args .f) (s .args .n) (s .args .word) (nothing-above (s .args .n) (s .args .word) (c .if1 .taken)))
 
 remainder-requires : tie.Need-remainder-requires
 remainder-requires c κs = search needs
