@@ -1,6 +1,6 @@
 -- The sums of rows that bytes pick, laid down in tables: a number of m bytes then picks its sum by m lookups.
 --
---   bytes                     the number of bytes that a number below 2 ^ limit has
+--   bytes                     the number of bytes that a number below 2 ^ limit has; `wordBytes`: that any word has
 --   sumsFrom rows v count     the sums that the numbers v, v + 1, .. pick, count of them
 --   byteSums m rows           m tables of 256 sums each: what a byte picks of the rows, of the rows from 8 on, of those from 16 on, ..
 --   pickedBytes m sums v      the sum of one entry of each of m tables: that at the table's byte of v
@@ -27,6 +27,9 @@ use Rattle.rows.specs.Sums.{comb-⊕, comb-zero, comb-drop}
 
 abbrev pub bytes : ℕ
 bytes = (limit + 7) / 8
+
+abbrev pub wordBytes : ℕ
+wordBytes = 8
 
 unfoldable pub sumsFrom : (rows : List ℕ) (v count : ℕ) → List ℕ
 sumsFrom rows v zero = []

@@ -40,7 +40,7 @@ tables (suc m) rows sums = tabled 8 (256 * m) (drop (8 * m) rows) (set (tables m
 -- ---- doubling
 
 module _ (at count row : ℕ) (sums : List ℕ) where
-  doubled-length : (m : ℕ) → length (doubled m at count row sums) ≡ length sums
+  pub doubled-length : (m : ℕ) → length (doubled m at count row sums) ≡ length sums
   unfolding doubled
   doubled-length zero = refl
   doubled-length (suc m) = length-set (doubled m at count row sums) (at + count + m) _ ∙ doubled-length m
@@ -78,7 +78,7 @@ module _ (at count row : ℕ) (sums : List ℕ) where
 -- ---- a table
 
 module _ (at : ℕ) (rows sums : List ℕ) where
-  tabled-length : (t : ℕ) → length (tabled t at rows sums) ≡ length sums
+  pub tabled-length : (t : ℕ) → length (tabled t at rows sums) ≡ length sums
   unfolding tabled
   tabled-length zero = refl
   tabled-length (suc t) = doubled-length at (2 ^ t) (getD rows t 0) (tabled t at rows sums) (2 ^ t) ∙ tabled-length t
@@ -135,7 +135,7 @@ module _ (at : ℕ) (rows sums : List ℕ) where
 -- ---- the tables
 
 module _ (rows sums : List ℕ) where
-  tables-length : (m : ℕ) → length (tables m rows sums) ≡ length sums
+  pub tables-length : (m : ℕ) → length (tables m rows sums) ≡ length sums
   unfolding tables
   tables-length zero = refl
   tables-length (suc m) =

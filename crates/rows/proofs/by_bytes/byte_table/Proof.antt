@@ -3,10 +3,10 @@
 use mathlib.Core.Path.{_≡_, refl, sym, ap, _∙_}
 use Prim.Native.Nat.{ℕ, _-_, _*_, _≤_}
 use native.Mathlib.Omega.{arith}
-use lib.ListN.{getD, set, drop}
+use lib.ListN.{length, getD, set, drop, length-set}
 use lib.Pow.{pow-mono}
 use lib.Seq.{getD-drop}
-use Rattle.rows.specs.Doubling.{tabled, tabled-turn}
+use Rattle.rows.specs.Doubling.{tabled, tabled-length, tabled-turn}
 use Rattle.rows.proofs.by_bytes.byte_table.Statement.{statement}
 use Rattle.rows.proofs.by_bytes.byte_table.Tie as tie
 
@@ -20,14 +20,20 @@ abbrev μ-loop : tie.MeasureT-loop
 tight : (c : tie.In-loop Inv-loop μ-loop) → c .before .loop .t ≤ 7
 tight c = omega (arith, c .loop-test .taken)
 
+-- the list keeps its length
+kept : (l : tie.At-loop Inv-loop μ-loop) → length (l .loop .sums) ≡ length (l .before .before .args .sums .now)
+kept l =
+    let s = l .before .before .args in
+    ap length (l .loop .inv .1) ∙ tabled-length (256 * s .j) (drop (8 * s .j) (s .rows .now)) (set (s .sums .now) (256 * s .j) 0) (l .loop .t) ∙ length-set (s .sums .now) (256 * s .j) 0
+
 mul-at : tie.Need-mul-at Inv-loop μ-loop
-mul-at c = omega arith
+mul-at c = omega (arith, c .before .pre .0)
 
 mul-sums : tie.Need-mul-sums Inv-loop μ-loop
-mul-sums c = omega arith
+mul-sums c = omega (arith, c .before .pre .0)
 
-element-write-sums : tie.Need-element-write-sums Inv-loop μ-loop
-element-write-sums c = omega arith
+slice-write-sums : tie.Need-slice-write-sums Inv-loop μ-loop
+slice-write-sums c = omega (arith, c .before .pre .0)
 
 loop-holds : tie.Need-loop-holds Inv-loop μ-loop
 unfolding tabled
@@ -37,19 +43,19 @@ power-requires : tie.Need-power-requires Inv-loop μ-loop
 power-requires c κs = omega arith
 
 mul-row-at : tie.Need-mul-row-at Inv-loop μ-loop
-mul-row-at c = omega arith
+mul-row-at c = omega (arith, c .before .before .before .before .before .pre .0)
 
 add-row-at : tie.Need-add-row-at Inv-loop μ-loop
-add-row-at c = omega arith
+add-row-at c = omega (arith, c .before .before .before .before .before .pre .0)
 
 row-at-requires : tie.Need-row-at-requires Inv-loop μ-loop
-row-at-requires c κs = omega arith
+row-at-requires c κs = c .before .before .before .before .before .pre .1
 
 double-requires : tie.Need-double-requires Inv-loop μ-loop
 double-requires c κs =
     let i = c .before .before .before in
-    let s = i .before .before in
-    omega (arith, s .pre .0, c .before .power .ensures, pow-mono (tight i))
+    let l = i .before in
+    omega (arith, l .before .before .pre .0, c .before .power .ensures, pow-mono (tight i), kept l)
 
 add-t : tie.Need-add-t Inv-loop μ-loop
 add-t c = omega arith
@@ -59,16 +65,20 @@ loop-less c = omega arith
 
 loop-again : tie.Need-loop-again Inv-loop μ-loop
 loop-again c =
-    let q = c .before in
+    let d = c .before .before in
+    let q = d .before in
     let l = q .before .before .before .before in
-    let s = l .before .args in
+    let s = l .before .before .args in
     let row : q .row-at .result ≡ getD (drop (8 * s .j) (s .rows .now)) (l .loop .t) 0 = q .row-at .ensures ∙ sym (getD-drop (8 * s .j) (s .rows .now) (l .loop .t) 0) in
-    (omega arith, tabled-turn (256 * s .j) (drop (8 * s .j) (s .rows .now)) (set (s .sums .now) (256 * s .j) 0) (l .loop .t) (l .loop .sums) _ (q .before .power .result) (q .row-at .result) (q .before .power .ensures) row (l .loop .inv .1) (c .double .ensures))
+    (omega arith, tabled-turn (256 * s .j) (drop (8 * s .j) (s .rows .now)) (set (s .sums .now) (256 * s .j) 0) (l .loop .t) (l .loop .sums) _ (q .before .power .result) (q .row-at .result) (q .before .power .ensures) row (l .loop .inv .1) (d .double .ensures))
+
+same-length : tie.Need-same-length Inv-loop μ-loop
+same-length c = kept (c .before)
 
 returns : tie.Need-returns Inv-loop μ-loop
 returns c =
     let l = c .before in
-    let s = l .before .args in
+    let s = l .before .before .args in
     let e : l .loop .t ≡ 8 = omega arith in
     l .loop .inv .1 ∙ ap (λ (t : ℕ). tabled t (256 * s .j) (drop (8 * s .j) (s .rows .now)) (set (s .sums .now) (256 * s .j) 0)) e
 
@@ -80,7 +90,7 @@ byte-table-spec =
     μ-loop
     mul-at
     mul-sums
-    element-write-sums
+    slice-write-sums
     loop-holds
     power-requires
     mul-row-at
@@ -90,4 +100,5 @@ byte-table-spec =
     add-t
     loop-less
     loop-again
+    same-length
     returns)

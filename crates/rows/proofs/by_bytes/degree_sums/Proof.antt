@@ -10,7 +10,7 @@ use Rattle.gf2.specs.Limit.{limit}
 use Rattle.rows.specs.Rows.{Matrix}
 use Rattle.rows.specs.Sums.{zeros-at}
 use Rattle.rows.specs.ByteSums.{bytes, byteSums}
-use Rattle.rows.specs.Doubling.{tables, tables-turn, tables-enough}
+use Rattle.rows.specs.Doubling.{tables, tables-length, tables-turn, tables-enough}
 use Rattle.rows.proofs.by_bytes.degree_sums.Statement.{statement}
 use Rattle.rows.proofs.by_bytes.degree_sums.Tie as tie
 
@@ -22,6 +22,12 @@ abbrev μ-loop : tie.MeasureT-loop
 
 length-rows : (c : tie.Start Inv-loop μ-loop) → length (c .args .t1) ≡ limit
 length-rows c = search needs
+
+-- the array keeps its length
+kept : (l : tie.At-loop Inv-loop μ-loop) → length (l .loop .sums) ≡ 256 * bytes
+kept l =
+    let s = l .before in
+    ap length (l .loop .inv .1) ∙ tables-length (s .args .t1) (s .args .sums .now) (l .loop .j) ∙ ap length (s .pre .2) ∙ length-replicate {A = ℕ} (256 * bytes) 0
 
 -- (n + 7) / 8 tables hold all rows that are not zero
 enough : (n : ℕ) (rows sums : List ℕ) → Matrix rows n → n ≤ limit → sums ≡ replicate (256 * bytes) 0 → tables ((n + 7) / 8) rows sums ≡ byteSums bytes rows
@@ -37,8 +43,8 @@ loop-holds c = (omega arith, refl)
 
 byte-table-requires : tie.Need-byte-table-requires Inv-loop μ-loop
 byte-table-requires c κs =
-    let s = c .before .before .before .before in
-    (omega (arith, s .pre .1), length-rows s)
+    let l = c .before .before .before in
+    (omega (arith, l .before .pre .1, kept l), length-rows (l .before))
 
 add-j : tie.Need-add-j Inv-loop μ-loop
 add-j c = omega (arith, c .before .before .before .before .before .pre .1)
