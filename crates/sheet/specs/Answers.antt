@@ -4,7 +4,8 @@
 --   Issue                         the documents' numbers for what build and reading answer
 --   issuedOf v s, issueOf v s     the case, and the numbers, that an order's verdict gives
 --   summaryOf f n a               "Build and reading answer n, complexity and grade."
---   toPolynomial, toNormal        the two conversions of a value, by the rows as they stand
+--   elementIn sheet word          the remainder of a word modulo the sheet's f, which `toNormal` converts
+--   toPolynomial, toNormal        the two conversions, by the rows as they stand
 --   throughTable                  the product, by the table as it stands
 --   inverseThrough, quotientThrough   the inverse and the quotient, by the table as it stands
 --   ..Answer, ..Report            the calls, as functions of their inputs
@@ -14,7 +15,7 @@
 use mathlib.Core.List.{List, _++_, map}
 use Prim.Native.Nat.{ℕ}
 use lib.ListN.{length, drop}
-use Rattle.gf2.specs.Poly.{degree}
+use Rattle.gf2.specs.Poly.{degree, rem}
 use Rattle.refusals.specs.Verdicts.{Verdict, clear, refuse, firstOf}
 use Rattle.refusals.specs.Answers.{Report, answerOf, left, reportOf, valueOf, checkedOf}
 use Rattle.refusals.specs.declared.answer.Value.{Value}
@@ -93,15 +94,20 @@ polynomialAnswer sheet coordinates = valueOf (firstOf (polynomialOrder sheet coo
 unfoldable pub polynomialReport : (sheet : List ℕ) (coordinates : ℕ) → Report
 polynomialReport sheet coordinates = reportOf (firstOf (polynomialOrder sheet coordinates)) (toPolynomial sheet coordinates)
 
--- "converting to normal coordinates sums the inverse rows picked by the bits"
-unfoldable pub toNormal : (sheet : List ℕ) (element : ℕ) → ℕ
-toNormal sheet element = comb (inverseRowsIn sheet) element
+-- "its remainder modulo f .. likewise with the sheet's f" (document 02, §6): the element that a word stands for. The sheet's f is 2^n plus
+-- its polynomial bytes, accepted or not.
+unfoldable pub elementIn : (sheet : List ℕ) (word : ℕ) → ℕ
+elementIn sheet word = rem (polynomialIn sheet) (recordCount sheet) word
 
-unfoldable pub normalAnswer : (sheet : List ℕ) (element : ℕ) → Value
-normalAnswer sheet element = valueOf (firstOf (normalOrder sheet element)) (toNormal sheet element)
+-- "converting to normal coordinates sums the inverse rows picked by the bits" of that element
+unfoldable pub toNormal : (sheet : List ℕ) (word : ℕ) → ℕ
+toNormal sheet word = comb (inverseRowsIn sheet) (elementIn sheet word)
 
-unfoldable pub normalReport : (sheet : List ℕ) (element : ℕ) → Report
-normalReport sheet element = reportOf (firstOf (normalOrder sheet element)) (toNormal sheet element)
+unfoldable pub normalAnswer : (sheet : List ℕ) (word : ℕ) → Value
+normalAnswer sheet word = valueOf (firstOf (normalOrder sheet)) (toNormal sheet word)
+
+unfoldable pub normalReport : (sheet : List ℕ) (word : ℕ) → Report
+normalReport sheet word = reportOf (firstOf (normalOrder sheet)) (toNormal sheet word)
 
 -- "Bit k of a product of normal coordinates a and b is the sum modulo 2, over all i and j, of .."
 unfoldable pub throughTable : (sheet : List ℕ) (a b : ℕ) → ℕ

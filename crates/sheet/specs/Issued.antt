@@ -7,11 +7,11 @@
 --   list-normal, list-polynomial                   the lent list
 --
 -- Assumes nothing.
-use mathlib.Core.Path.{_≡_, sym, ap, _∙_}
+use mathlib.Core.Path.{_≡_, refl, sym, ap, _∙_}
 use mathlib.Core.List.{List, [], _∷_, _++_, map}
 use Prim.Native.Nat.{ℕ, _*_, _^_, _≤_, _<_}
 use native.Mathlib.Omega.{arith}
-use lib.ListN.{length, getD, take, drop}
+use lib.ListN.{length, take, drop}
 use lib.Seq.{take-append-seam}
 use Rattle.gf2.specs.Poly.{degree}
 use Rattle.refusals.specs.Answers.{answerOf, left, valueOf, checkedOf}
@@ -19,14 +19,14 @@ use Rattle.refusals.specs.Verdicts.{Verdict, clear, refuse, firstOf}
 use Rattle.refusals.specs.declared.answer.Checked.the-variants as checked
 use Rattle.refusals.specs.declared.answer.Value.the-variants as value
 use Rattle.sheet.specs.Record.{recordSize, recordCount, conjugateIn, polynomialIn, sheetBytes}
-use Rattle.sheet.specs.Orders.{buildOrder, readOrder, listLimit}
+use Rattle.sheet.specs.Orders.{buildOrder, readOrder, listLimit, Small}
 use Rattle.sheet.specs.Answers.{issuedOf, summaryOf, summaryIn, buildAnswer, atFront, builtBuffer, readAnswer, toPolynomial, polynomialAnswer, toNormal, normalAnswer, throughTable, timesAnswer, polynomialListAnswer, polynomialList, normalListAnswer, normalList}
 use Rattle.sheet.specs.Answered.{done-clear}
-use Rattle.sheet.specs.Held.{held-summary}
+use Rattle.sheet.specs.Held.{held-shape, held-summary}
 use Rattle.sheet.specs.Issuing.{build-issues, build-based, read-sheet, sheet-reads}
 use Rattle.sheet.specs.Rebuilding.{sheetBytes-length}
 use Rattle.sheet.specs.Sheets.{Based, SheetOf}
-use Rattle.sheet.specs.Through.{value-small, values-small, values-clear, list-clear, list-filled}
+use Rattle.sheet.specs.Through.{value-small, values-small, values-clear, list-clear, coordinates-clear}
 use Rattle.sheet.specs.declared.answer.Summary.{Summary}
 use Rattle.sheet.specs.declared.answer.Issued.the-variants as issued
 
@@ -93,10 +93,9 @@ module _ (f n a : ℕ) (sheet : List ℕ) (s : SheetOf f n a sheet) where
   polynomial-answered v h =
       ap (λ (w : Verdict). valueOf w (toPolynomial sheet v)) (values-clear f n a sheet s (v ∷ []) (value-small n v h))
 
-  pub normal-answered : (y : ℕ) → y < 2 ^ n → normalAnswer sheet y ≡ value.Done (toNormal sheet y)
+  pub normal-answered : (word : ℕ) → normalAnswer sheet word ≡ value.Done (toNormal sheet word)
   unfolding normalAnswer answerOf
-  normal-answered y h =
-      ap (λ (w : Verdict). valueOf w (toNormal sheet y)) (values-clear f n a sheet s (y ∷ []) (value-small n y h))
+  normal-answered word = ap (λ (w : Verdict). valueOf w (toNormal sheet word)) (held-shape f n a sheet s)
 
   pub times-answered : (u v : ℕ) → u < 2 ^ n → v < 2 ^ n → timesAnswer sheet u v ≡ value.Done (throughTable sheet u v)
   unfolding timesAnswer answerOf
@@ -105,19 +104,20 @@ module _ (f n a : ℕ) (sheet : List ℕ) (s : SheetOf f n a sheet) where
 
   -- ---- lists
 
-  module _ (from : List ℕ) (short : length from ≤ listLimit) (all : (i : ℕ) → i < length from → getD from i 0 < 2 ^ n) where
+  module _ (from : List ℕ) (short : length from ≤ listLimit) where
     pub list-normal-answered : normalListAnswer sheet from (length from) ≡ checked.Done
     unfolding normalListAnswer answerOf
-    list-normal-answered = ap checkedOf (list-clear f n a sheet s from short all)
-
-    pub list-polynomial-answered : polynomialListAnswer sheet from (length from) ≡ checked.Done
-    unfolding polynomialListAnswer answerOf
-    list-polynomial-answered = ap checkedOf (list-clear f n a sheet s from short all)
+    list-normal-answered = ap checkedOf (list-clear f n a sheet s from short)
 
     pub list-normal : (into : List ℕ) → length into ≡ length from → normalList sheet from into ≡ map (toNormal sheet) from
-    unfolding normalList
-    list-normal into e = list-filled f n a sheet s (toNormal sheet) from into short e all
+    unfolding normalList left
+    list-normal into e = rw (e, list-clear f n a sheet s from short) refl
 
-    pub list-polynomial : (into : List ℕ) → length into ≡ length from → polynomialList sheet from into ≡ map (toPolynomial sheet) from
-    unfolding polynomialList
-    list-polynomial into e = list-filled f n a sheet s (toPolynomial sheet) from into short e all
+    module _ (all : Small n from) where
+      pub list-polynomial-answered : polynomialListAnswer sheet from (length from) ≡ checked.Done
+      unfolding polynomialListAnswer answerOf
+      list-polynomial-answered = ap checkedOf (coordinates-clear f n a sheet s from short all)
+
+      pub list-polynomial : (into : List ℕ) → length into ≡ length from → polynomialList sheet from into ≡ map (toPolynomial sheet) from
+      unfolding polynomialList left
+      list-polynomial into e = rw (e, coordinates-clear f n a sheet s from short all) refl

@@ -13,6 +13,7 @@ pub mod Loaded
 pub mod Converting
 pub mod Dividing
 pub mod Lists
+pub mod Unreduced
 pub mod Listed
 pub mod Reading
 pub mod Rebuilding

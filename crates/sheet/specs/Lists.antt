@@ -1,12 +1,12 @@
--- Converting lists: the first value that is too large decides condition 4; a list is filled value by value.
+-- Converting lists: condition 11; the first value that is too large decides condition 4; a list is filled value by value.
 --
 --   firstLarge n i values   the index of the first value that is 2 ^ n or more, counted from i; past the last where there is none
 --
 -- Assumes nothing.
 use mathlib.Core.Path.{_≡_, refl, sym, ap, ap₂, _∙_}
-use mathlib.Core.Bool.{Bool, true, false, not, cond, _||_}
+use mathlib.Core.Bool.{Bool, true, false, not, cond}
 use mathlib.Core.List.{List, [], _∷_, _++_, map, append-nil}
-use Prim.Native.Nat.{ℕ, zero, suc, _+_, _^_, _≤_, _<_}
+use Prim.Native.Nat.{ℕ, zero, suc, _+_, _≤_, _<_}
 use native.Mathlib.Nat.{le-of-suc-le-suc, not-suc-le-zero}
 use native.Mathlib.Numerals.{add-one}
 use native.Mathlib.Omega.{arith}
@@ -16,11 +16,11 @@ use lib.Seq.{drop-cons, set-at, getD-at, take-suc, append-snoc, take-all}
 use borrow.Author.Tests.{lt-ltb, le-ltb, eq-eqb, ne-eqb, ltb-false, eqb-true, not-false}
 use Rattle.gf2.specs.Truth.{or-false}
 use Rattle.refusals.specs.Verdicts.{clear, refuse, firstOf}
-use Rattle.refusals.specs.Orders.{first-applies, first-passes, first-clear, parts-clear}
+use Rattle.refusals.specs.Orders.{first-applies, first-passes, first-none, first-clear, parts-clear}
 use Rattle.field.specs.Refusals.{tooLarge}
 use Rattle.field.specs.Orders.{not-too-large}
 use Rattle.sheet.specs.Record.{recordCount}
-use Rattle.sheet.specs.Orders.{listLimit, listRule, valueRules, shapeOrder, listOrder, Shaped, Listed}
+use Rattle.sheet.specs.Orders.{listLimit, listRule, valueRules, shapeOrder, listOrder, polynomialListOrder, Shaped, Fits, Small}
 use Rattle.sheet.specs.Clear.{clear-shaped}
 
 unfoldable pub firstLarge : (n i : ℕ) → List ℕ → ℕ
@@ -63,35 +63,42 @@ small-verdict n i (v ∷ vs) h = go (tooLarge n v) refl (small-verdict n (i + 1)
     go true e ih = let l : i + suc (length vs) ≤ i = rw e at h in absurd (omega arith)
     go false e ih = let l : i + suc (length vs) ≤ firstLarge n (i + 1) vs = rw e at h in rw e (ih (omega arith))
 
--- ---- 11, then 4
+-- ---- condition 11
 
-module _ (n : ℕ) (from : List ℕ) (into : ℕ) where
-  pub lengths-differ : (length from ≡ into → ⊥) → firstOf (listRule (length from) into ∷ valueRules n 0 from) ≡ refuse 11 0
-  lengths-differ e = first-applies (listRule (length from) into) _ (rw (ne-eqb (length from) into e))
+module _ (values room : ℕ) where
+  pub lengths-differ : (values ≡ room → ⊥) → firstOf (listRule values room ∷ []) ≡ refuse 11 0
+  lengths-differ e = first-applies (listRule values room) [] (rw (ne-eqb values room e))
 
-  module _ (e : length from ≡ into) where
-    pub list-too-long : listLimit < length from → firstOf (listRule (length from) into ∷ valueRules n 0 from) ≡ refuse 11 0
-    list-too-long h = first-applies (listRule (length from) into) _ (rw (eq-eqb (length from) into e, lt-ltb listLimit (length from) h))
+  module _ (e : values ≡ room) where
+    pub list-too-long : listLimit < values → firstOf (listRule values room ∷ []) ≡ refuse 11 0
+    list-too-long h = first-applies (listRule values room) [] (rw (eq-eqb values room e, lt-ltb listLimit values h))
 
-    pub list-values : length from ≤ listLimit → firstOf (listRule (length from) into ∷ valueRules n 0 from) ≡ firstOf (valueRules n 0 from)
-    list-values h = first-passes (listRule (length from) into) _ (rw (eq-eqb (length from) into e, le-ltb listLimit (length from) h))
+    pub list-fits : values ≤ listLimit → firstOf (listRule values room ∷ []) ≡ clear
+    list-fits h = first-passes (listRule values room) [] (rw (eq-eqb values room e, le-ltb listLimit values h)) ∙ first-none
 
 -- what conditions 11 and 4 leave
-values-small : (n i : ℕ) (values : List ℕ) → firstOf (valueRules n i values) ≡ clear → (j : ℕ) → j < length values → getD values j 0 < 2 ^ n
+pub coordinates-small : (n i : ℕ) (values : List ℕ) → firstOf (valueRules n i values) ≡ clear → Small n values
 unfolding valueRules
-values-small n i [] e j l = absurd (not-suc-le-zero l)
-values-small n i (v ∷ vs) e zero l = not-too-large n v (first-clear (record { number = 4; place = i; applies = tooLarge n v }) _ e .0)
-values-small n i (v ∷ vs) e (suc j) l =
-    values-small n (i + 1) vs (first-clear (record { number = 4; place = i; applies = tooLarge n v }) _ e .1) j (le-of-suc-le-suc l)
+coordinates-small n i [] e j l = absurd (not-suc-le-zero l)
+coordinates-small n i (v ∷ vs) e zero l = not-too-large n v (first-clear (record { number = 4; place = i; applies = tooLarge n v }) _ e .0)
+coordinates-small n i (v ∷ vs) e (suc j) l =
+    coordinates-small n (i + 1) vs (first-clear (record { number = 4; place = i; applies = tooLarge n v }) _ e .1) j (le-of-suc-le-suc l)
 
-pub list-judged : (sheet from : List ℕ) (into : ℕ) → firstOf (listOrder sheet from into) ≡ clear → Shaped sheet × Listed (recordCount sheet) from into
-list-judged sheet from into e =
-    let s = parts-clear (shapeOrder sheet) (listRule (length from) into ∷ valueRules (recordCount sheet) 0 from) e in
-    let l = first-clear (listRule (length from) into) (valueRules (recordCount sheet) 0 from) (s .1) in
-    let d = or-false (not (eqb (length from) into)) (ltb listLimit (length from)) (l .0) in (
+pub list-judged : (sheet : List ℕ) (values room : ℕ) → firstOf (listOrder sheet values room) ≡ clear → Shaped sheet × Fits values room
+list-judged sheet values room e =
+    let s = parts-clear (shapeOrder sheet) (listRule values room ∷ []) e in
+    let l = first-clear (listRule values room) [] (s .1) in
+    let d = or-false (not (eqb values room)) (ltb listLimit values) (l .0) in (
       clear-shaped sheet (s .0),
-      record { lengths = eqb-true (length from) into (not-false (eqb (length from) into) (d .0)); most = ltb-false listLimit (length from) (d .1); values = values-small (recordCount sheet) 0 from (l .1) },
+      record { lengths = eqb-true values room (not-false (eqb values room) (d .0)); most = ltb-false listLimit values (d .1) },
     )
+
+pub polynomials-judged : (sheet from : List ℕ) (room : ℕ) → firstOf (polynomialListOrder sheet from room) ≡ clear
+    → Shaped sheet × Fits (length from) room × Small (recordCount sheet) from
+polynomials-judged sheet from room e =
+    let s = parts-clear (listOrder sheet (length from) room) (valueRules (recordCount sheet) 0 from) e in
+    let l = list-judged sheet (length from) room (s .0) in
+    (l .0, l .1, coordinates-small (recordCount sheet) 0 from (s .1))
 
 -- ---- filling the list
 
@@ -142,3 +149,18 @@ pub map-agree : (convert other : ℕ → ℕ) (xs : List ℕ) → ((i : ℕ) →
 map-agree convert other [] h = refl
 map-agree convert other (x ∷ xs) h =
     ap₂ {C = List ℕ} (λ (y : ℕ) (l : List ℕ). y ∷ l) (h 0 (omega arith)) (map-agree convert other xs (λ i l. h (suc i) (omega arith)))
+
+-- ---- lists, value by value
+
+pub map-at : (g : ℕ → ℕ) (l : List ℕ) (i : ℕ) → i < length l → getD (map g l) i 0 ≡ g (getD l i 0)
+map-at g [] i h = absurd (omega arith)
+map-at g (x ∷ l) zero h = refl
+map-at g (x ∷ l) (suc i) h = map-at g l i (omega arith)
+
+pub map-below : (g : ℕ → ℕ) (m : ℕ) → ((y : ℕ) → g y < m) → (l : List ℕ) (i : ℕ) → i < length (map g l) → getD (map g l) i 0 < m
+map-below g m h l i k = rw (map-at g l i (rw (sym (map-length g l)) k)) (h (getD l i 0))
+
+pub map-round : (g h : ℕ → ℕ) (m : ℕ) → ((y : ℕ) → y < m → h (g y) ≡ y) → (l : List ℕ) → ((i : ℕ) → i < length l → getD l i 0 < m) → map h (map g l) ≡ l
+map-round g h m e [] all = refl
+map-round g h m e (x ∷ l) all =
+    ap₂ {C = List ℕ} (λ (y : ℕ) (r : List ℕ). y ∷ r) (e x (all 0 (omega arith))) (map-round g h m e l (λ i k. all (suc i) (omega arith)))

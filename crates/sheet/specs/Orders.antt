@@ -1,10 +1,10 @@
--- The refusals of the calls on sheets (document 01, "Refusal numbers"; document 02, §1): the rows 5 to 11 of the table, row 4 for a list, and
--- 13, which §1 adds; and the orders of build, reading, converting, multiplying and dividing. Definitions alone.
+-- The refusals of the calls on sheets (document 01, "Refusal numbers"; document 02, §1 and §6): the rows 5 to 11 of the table, row 4 for a
+-- list, and 13, which §1 adds; and the orders of build, reading, converting, multiplying and dividing. Definitions alone.
 --
 --   ..Rule, ..Rules   the rows of the table; those that go record by record, or value by value
 --   ..Order           the orders of the calls, and parts of them
 --   Sized, Shaped     what is left of a sheet if none of 7 to 9 applies
---   Listed            what is left of a list if neither 11 nor 4 applies
+--   Fits, Small       what is left of a list if 11 does not apply, and if 4 does not
 --
 -- Assumes nothing.
 use mathlib.Core.Path.{_≡_}
@@ -77,7 +77,7 @@ listLimit = 4096
 abbrev pub listRule : (values room : ℕ) → Rule
 listRule values room = record { number = 11; place = 0; applies = not (eqb values room) || ltb listLimit values }
 
--- "an element, coordinate number .. is 2^n or more": "first such index in a list", counted from i
+-- a "coordinate number .. is 2^n or more": "first such index in a list", counted from i
 unfoldable pub valueRules : (n i : ℕ) → List ℕ → List Rule
 valueRules n i [] = []
 valueRules n i (v ∷ vs) = record { number = 4; place = i; applies = tooLarge n v } ∷ valueRules n (i + 1) vs
@@ -124,8 +124,9 @@ valueOrder sheet values = shapeOrder sheet ++ elementOrder (recordCount sheet) v
 abbrev pub polynomialOrder : (sheet : List ℕ) (coordinates : ℕ) → List Rule
 polynomialOrder sheet coordinates = valueOrder sheet (coordinates ∷ [])
 
-abbrev pub normalOrder : (sheet : List ℕ) (element : ℕ) → List Rule
-normalOrder sheet element = valueOrder sheet (element ∷ [])
+-- converting from polynomials takes any word (document 02, §6): "4 leaves the orders of .. conversion from polynomials"
+abbrev pub normalOrder : (sheet : List ℕ) → List Rule
+normalOrder sheet = shapeOrder sheet
 
 abbrev pub timesOrder : (sheet : List ℕ) (a b : ℕ) → List Rule
 timesOrder sheet a b = valueOrder sheet (a ∷ b ∷ [])
@@ -137,15 +138,16 @@ inverseOrder sheet a = valueOrder sheet (a ∷ []) ++ (zeroRule a ∷ [])
 abbrev pub quotientOrder : (sheet : List ℕ) (dividend divisor : ℕ) → List Rule
 quotientOrder sheet dividend divisor = valueOrder sheet (dividend ∷ divisor ∷ []) ++ (zeroRule divisor ∷ [])
 
--- "Convert a list: the same, with 11 before 4."
-abbrev pub listOrder : (sheet from : List ℕ) (room : ℕ) → List Rule
-listOrder sheet from room = shapeOrder sheet ++ (listRule (length from) room ∷ valueRules (recordCount sheet) 0 from)
+-- "Convert a list: the same, with 11 before 4." What stands before 4, for a list of so many values
+abbrev pub listOrder : (sheet : List ℕ) (values room : ℕ) → List Rule
+listOrder sheet values room = shapeOrder sheet ++ (listRule values room ∷ [])
 
 abbrev pub polynomialListOrder : (sheet from : List ℕ) (room : ℕ) → List Rule
-polynomialListOrder sheet from room = listOrder sheet from room
+polynomialListOrder sheet from room = listOrder sheet (length from) room ++ valueRules (recordCount sheet) 0 from
 
+-- "4 leaves the orders of .. conversion from polynomials"
 abbrev pub normalListOrder : (sheet from : List ℕ) (room : ℕ) → List Rule
-normalListOrder sheet from room = listOrder sheet from room
+normalListOrder sheet from room = listOrder sheet (length from) room
 
 -- ---- what is left where no condition applies
 
@@ -161,8 +163,11 @@ pub record Shaped (sheet : List ℕ) : Type 0 where
   pub places : (i : ℕ) → i < recordCount sheet → misplaced sheet i ≡ false
   pub small : (i : ℕ) → i < recordCount sheet → oversized sheet i ≡ false
 
--- after 11 and 4, for a list whose destination has room for so many values
-pub record Listed (n : ℕ) (from : List ℕ) (room : ℕ) : Type 0 where
-  pub lengths : length from ≡ room
-  pub most : length from ≤ listLimit
-  pub values : (i : ℕ) → i < length from → getD from i 0 < 2 ^ n
+-- after 11, for a list of so many values whose destination has room for so many
+pub record Fits (values room : ℕ) : Type 0 where
+  pub lengths : values ≡ room
+  pub most : values ≤ listLimit
+
+-- after 4, for a list of coordinate numbers
+abbrev pub Small : (n : ℕ) (from : List ℕ) → Type 0
+Small n from = (i : ℕ) → i < length from → getD from i 0 < 2 ^ n

@@ -1,20 +1,19 @@
--- What is computed through the sheet of f and a: its conversions undo each other, its product is that of the elements, and no call on it
--- refuses a value below 2^n.
+-- What is computed through the sheet of f and a: its conversions undo each other, up to the remainder of a word; its product is that of the
+-- elements; and no call on it refuses a value below 2^n, or a list of words.
 --
---   values-clear, list-clear      the orders of the calls on it
---   element-of, coordinates-of    what a conversion gives: `..-lt` below 2^n, `there-back` and `back-there` each undoes the other
+--   values-clear, list-clear, coordinates-clear   the orders of the calls on it
+--   element-of, coordinates-of    what a conversion gives: `..-lt` below 2^n; `back-there` gives back, `there-back` gives the remainder
 --   product-lt, product-of        the product through its table
---   map-at, map-below, map-round  lists, value by value
 --
 -- Assumes nothing.
-use mathlib.Core.Path.{_≡_, refl, sym, ap, ap₂, _∙_}
+use mathlib.Core.Path.{_≡_, refl, ap, ap₂, _∙_}
 use mathlib.Core.Bool.{false}
-use mathlib.Core.List.{List, [], _∷_, map}
-use Prim.Native.Nat.{ℕ, zero, suc, _+_, _^_, _≤_, _<_}
+use mathlib.Core.List.{List, [], _∷_}
+use Prim.Native.Nat.{ℕ, suc, _+_, _^_, _≤_, _<_}
 use native.Mathlib.Omega.{arith}
-use lib.ListN.{length, getD}
-use Rattle.gf2.specs.Poly.{mulMod, Degree}
-use Rattle.refusals.specs.Answers.{left}
+use lib.ListN.{length}
+use Rattle.gf2.specs.Poly.{rem, mulMod, Degree}
+use Rattle.gf2.specs.Remainder.{rem-small, rem-lt}
 use Rattle.refusals.specs.Orders.{first-passes, first-none, part-clear}
 use Rattle.refusals.specs.Verdicts.{clear, firstOf}
 use Rattle.field.specs.Orders.{small-enough}
@@ -26,13 +25,12 @@ use Rattle.normal.specs.Coordinates.{inverseRows-inverse, there-and-back, back-
 use Rattle.normal.specs.Products.{tableRows-table}
 use Rattle.normal.specs.ProductBits.{table-product, tableProduct-lt}
 use Rattle.normal.specs.Selected.{selected-lt}
-use Rattle.sheet.specs.Record.{recordCount}
-use Rattle.sheet.specs.Orders.{listLimit, shapeOrder, valueRules, valueOrder, listOrder}
-use Rattle.sheet.specs.Answers.{toPolynomial, toNormal, throughTable}
+use Rattle.sheet.specs.Orders.{listLimit, shapeOrder, valueRules, valueOrder, listOrder, polynomialListOrder, normalListOrder, Small}
+use Rattle.sheet.specs.Answers.{toPolynomial, elementIn, toNormal, throughTable}
 use Rattle.sheet.specs.Converting.{value-passes}
-use Rattle.sheet.specs.Held.{held-count, held-shape, conjugate-rows, inverse-rows, table-rows}
+use Rattle.sheet.specs.Held.{held-count, held-shape, held-polynomial, conjugate-rows, inverse-rows, table-rows}
 use Rattle.sheet.specs.Issuing.{based-degree, based-two, based-returns, based-free}
-use Rattle.sheet.specs.Lists.{list-values, map-length}
+use Rattle.sheet.specs.Lists.{list-fits}
 use Rattle.sheet.specs.Sheets.{SheetOf}
 
 -- ---- values below 2^n
@@ -43,28 +41,12 @@ value-small n v h = rw (small-enough n v h)
 pub values-small : (n u v : ℕ) → u < 2 ^ n → v < 2 ^ n → anyTooLarge n (u ∷ v ∷ []) ≡ false
 values-small n u v hu hv = rw (small-enough n u hu) (value-small n v hv)
 
-all-small : (n i : ℕ) (values : List ℕ) → ((j : ℕ) → j < length values → getD values j 0 < 2 ^ n) → firstOf (valueRules n i values) ≡ clear
+pub all-small : (n i : ℕ) (values : List ℕ) → Small n values → firstOf (valueRules n i values) ≡ clear
 unfolding valueRules
 all-small n i [] all = first-none
 all-small n i (v ∷ vs) all =
     first-passes (record { number = 4; place = i; applies = tooLarge n v }) _ (small-enough n v (all 0 (omega arith)))
     ∙ all-small n (i + 1) vs (λ j h. all (suc j) (omega arith))
-
--- ---- lists, value by value
-
-pub map-at : (g : ℕ → ℕ) (l : List ℕ) (i : ℕ) → i < length l → getD (map g l) i 0 ≡ g (getD l i 0)
-map-at g [] i h = absurd (omega arith)
-map-at g (x ∷ l) zero h = refl
-map-at g (x ∷ l) (suc i) h = map-at g l i (omega arith)
-
-pub map-below : (g : ℕ → ℕ) (m : ℕ) → ((y : ℕ) → y < m → g y < m) → (l : List ℕ) → ((i : ℕ) → i < length l → getD l i 0 < m)
-    → (i : ℕ) → i < length (map g l) → getD (map g l) i 0 < m
-map-below g m h l all i k = let j : i < length l = rw (sym (map-length g l)) k in rw (map-at g l i j) (h (getD l i 0) (all i j))
-
-pub map-round : (g h : ℕ → ℕ) (m : ℕ) → ((y : ℕ) → y < m → h (g y) ≡ y) → (l : List ℕ) → ((i : ℕ) → i < length l → getD l i 0 < m) → map h (map g l) ≡ l
-map-round g h m e [] all = refl
-map-round g h m e (x ∷ l) all =
-    ap₂ {C = List ℕ} (λ (y : ℕ) (r : List ℕ). y ∷ r) (e x (all 0 (omega arith))) (map-round g h m e l (λ i k. all (suc i) (omega arith)))
 
 module _ (f n a : ℕ) (sheet : List ℕ) (s : SheetOf f n a sheet) where
   ha : a < 2 ^ n
@@ -84,18 +66,12 @@ module _ (f n a : ℕ) (sheet : List ℕ) (s : SheetOf f n a sheet) where
   pub values-clear : (values : List ℕ) → anyTooLarge n values ≡ false → firstOf (valueOrder sheet values) ≡ clear
   values-clear values e = value-passes sheet (held-shape f n a sheet s) values (rw (held-count f n a sheet s) e)
 
-  pub list-clear : (from : List ℕ) → length from ≤ listLimit → ((i : ℕ) → i < length from → getD from i 0 < 2 ^ n)
-      → firstOf (listOrder sheet from (length from)) ≡ clear
-  list-clear from short all =
-      part-clear (shapeOrder sheet) _ (held-shape f n a sheet s) ∙ list-values (recordCount sheet) from (length from) refl short
-      ∙ rw (held-count f n a sheet s) (all-small n 0 from all)
+  pub list-clear : (from : List ℕ) → length from ≤ listLimit → firstOf (normalListOrder sheet from (length from)) ≡ clear
+  list-clear from short = part-clear (shapeOrder sheet) _ (held-shape f n a sheet s) ∙ list-fits (length from) (length from) refl short
 
-  -- what the lent list then holds, whichever way it is converted
-  pub list-filled : (convert : ℕ → ℕ) (from into : List ℕ) → length from ≤ listLimit → length into ≡ length from
-      → ((i : ℕ) → i < length from → getD from i 0 < 2 ^ n)
-      → left (firstOf (listOrder sheet from (length into))) (map convert from) into ≡ map convert from
-  unfolding left
-  list-filled convert from into short e all = rw (e, list-clear from short all) refl
+  pub coordinates-clear : (from : List ℕ) → length from ≤ listLimit → Small n from → firstOf (polynomialListOrder sheet from (length from)) ≡ clear
+  coordinates-clear from short all =
+      part-clear (listOrder sheet (length from) (length from)) _ (list-clear from short) ∙ rw (held-count f n a sheet s) (all-small n 0 from all)
 
   -- ---- converting
 
@@ -103,23 +79,33 @@ module _ (f n a : ℕ) (sheet : List ℕ) (s : SheetOf f n a sheet) where
   unfolding toPolynomial
   element-of v = ap (λ (rows : List ℕ). comb rows v) (conjugate-rows f n a sheet s)
 
-  pub coordinates-of : (y : ℕ) → toNormal sheet y ≡ comb (inverseRows f n a) y
+  -- the sheet's polynomial is f
+  pub remainder-of : (word : ℕ) → elementIn sheet word ≡ rem f n word
+  unfolding elementIn
+  remainder-of word = rw (held-polynomial f n a sheet s, held-count f n a sheet s)
+
+  pub coordinates-of : (word : ℕ) → toNormal sheet word ≡ comb (inverseRows f n a) (rem f n word)
   unfolding toNormal
-  coordinates-of y = ap (λ (rows : List ℕ). comb rows y) (inverse-rows f n a sheet s)
+  coordinates-of word = ap₂ comb (inverse-rows f n a sheet s) (remainder-of word)
 
   pub element-lt : (v : ℕ) → v < 2 ^ n → toPolynomial sheet v < 2 ^ n
   element-lt v h = rw (element-of v) (selected-lt f n deg a ha v h)
 
-  pub coordinates-lt : (y : ℕ) → y < 2 ^ n → toNormal sheet y < 2 ^ n
-  coordinates-lt y h = rw (coordinates-of y) (comb-lt n (inverseRows f n a) (inverseRows-inverse f n deg a ha free .shape .row-lt) y)
+  pub coordinates-lt : (word : ℕ) → toNormal sheet word < 2 ^ n
+  coordinates-lt word =
+      rw (coordinates-of word) (comb-lt n (inverseRows f n a) (inverseRows-inverse f n deg a ha free .shape .row-lt) (rem f n word))
 
-  pub there-back : (y : ℕ) → y < 2 ^ n → toPolynomial sheet (toNormal sheet y) ≡ y
-  there-back y h =
-      element-of (toNormal sheet y) ∙ ap (comb (conjugates f n a)) (coordinates-of y) ∙ there-and-back f n deg a ha free y h
+  pub there-back : (word : ℕ) → toPolynomial sheet (toNormal sheet word) ≡ rem f n word
+  there-back word =
+      element-of (toNormal sheet word)
+      ∙ ap (comb (conjugates f n a)) (coordinates-of word)
+      ∙ there-and-back f n deg a ha free (rem f n word) (rem-lt f n deg word)
 
   pub back-there : (v : ℕ) → v < 2 ^ n → toNormal sheet (toPolynomial sheet v) ≡ v
   back-there v h =
-      coordinates-of (toPolynomial sheet v) ∙ ap (comb (inverseRows f n a)) (element-of v) ∙ back-and-there f n deg a ha free v h
+      coordinates-of (toPolynomial sheet v)
+      ∙ ap (comb (inverseRows f n a)) (rem-small f n (toPolynomial sheet v) (element-lt v h) ∙ element-of v)
+      ∙ back-and-there f n deg a ha free v h
 
   -- ---- multiplying
 

@@ -7,15 +7,17 @@ ghost use Rattle.refusals.specs.Answers.{checkedOf, valueReport};
 ghost use Rattle.rows.specs.Rows.{comb};
 ghost use Rattle.sheet.specs.Record.{recordSize, recordCount, wordSize, rowsIn};
 ghost use Rattle.sheet.specs.Orders.{Shaped, valueOrder};
-ghost use Rattle.sheet.specs.Answers.{polynomialAnswer, polynomialReport, normalAnswer, normalReport, throughTable, timesAnswer, timesReport};
+ghost use Rattle.sheet.specs.Answers.{polynomialAnswer, polynomialReport, elementIn, toNormal, normalAnswer, normalReport, throughTable, timesAnswer, timesReport};
 use super::layout::CONJUGATE_AT;
 use super::layout::INVERSE_AT;
 use super::layout::RECORD;
 use super::layout::TABLE_AT;
 use super::loading::load_rows;
 use super::loading::load_sums;
+use super::loading::polynomial_of;
 use super::shape::shape_verdict;
 use field::elements_verdict;
+use gf2::element_of;
 use normal::product_by_bytes;
 use normal::product_of;
 use refusals::Checked;
@@ -66,15 +68,32 @@ pub fn to_polynomial(sheet: &[u8], coordinates: u64) -> Value
     }
 }
 
-// The normal coordinates of an element.
-pub fn to_normal(sheet: &[u8], element: u64) -> Value
-    ensures answer { λ r. ⌜ r ≡ normalAnswer (now (sheet .entry)) element ⌝ }
-    ensures report { λ r. ⌜ valueReport r ≡ normalReport (now (sheet .entry)) element ⌝ }
+// The element that a word stands for on a sheet: its remainder modulo the sheet's polynomial.
+fn element_in(sheet: &[u8], word: u64) -> u64
+    requires { ⌜ Shaped (now sheet) ⌝ }
+    ensures { λ r. ⌜ r ≡ elementIn (now (sheet .entry)) word ⌝ }
 {
-    let verdict = value_verdict(sheet, element);
+    element_of(polynomial_of(sheet), (sheet.len() / RECORD) as u32, word)
+}
+
+// The sum of the inverse rows that the bits of that element pick.
+fn coordinates_in(sheet: &[u8], word: u64) -> u64
+    requires { ⌜ Shaped (now sheet) ⌝ }
+    ensures { λ r. ⌜ r ≡ toNormal (now (sheet .entry)) word ⌝ }
+{
+    let element = element_in(sheet, word);
+    converted(sheet, INVERSE_AT, element)
+}
+
+// The normal coordinates of an element, which may arrive unreduced.
+pub fn to_normal(sheet: &[u8], word: u64) -> Value
+    ensures answer { λ r. ⌜ r ≡ normalAnswer (now (sheet .entry)) word ⌝ }
+    ensures report { λ r. ⌜ valueReport r ≡ normalReport (now (sheet .entry)) word ⌝ }
+{
+    let verdict = shape_verdict(sheet);
     match verdict {
         Checked::Refused(refusal) => Value::Refused(refusal),
-        Checked::Done => Value::Done(converted(sheet, INVERSE_AT, element)),
+        Checked::Done => Value::Done(coordinates_in(sheet, word)),
     }
 }
 

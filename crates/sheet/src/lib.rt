@@ -9,6 +9,7 @@ mod loading;
 mod reading;
 mod record;
 mod shape;
+mod unreduced;
 
 pub use answer::Issued;
 pub use answer::Summary;

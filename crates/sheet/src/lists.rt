@@ -1,21 +1,26 @@
-// The public calls that convert lists. A destination is written only if every value of its source is good.
+// The public calls that convert lists. A destination is written only if nothing is refused.
 ghost use mathlib.Core.Path.{_≡_};
-ghost use mathlib.Core.List.{_∷_, map};
-ghost use Prim.Native.Nat.{ℕ, _+_, _^_, _≤_, _<_};
+ghost use mathlib.Core.List.{[], _∷_, map};
+ghost use Prim.Native.Nat.{ℕ, _^_, _<_};
 ghost use lib.ListN.{length, getD};
 ghost use Rattle.gf2.specs.Limit.{limit};
 ghost use Rattle.refusals.specs.Verdicts.{firstOf};
 ghost use Rattle.refusals.specs.Answers.{checkedOf, checkedReport};
 ghost use Rattle.rows.specs.Rows.{comb};
-ghost use Rattle.sheet.specs.Record.{recordSize, recordCount, wordSize, rowsIn};
-ghost use Rattle.sheet.specs.Orders.{Shaped, Listed, listRule, valueRules, listOrder};
-ghost use Rattle.sheet.specs.Answers.{polynomialListAnswer, polynomialListReport, polynomialList, normalListAnswer, normalListReport, normalList};
+ghost use Rattle.field.specs.Accepted.{InRange};
+ghost use Rattle.sheet.specs.Record.{recordCount};
+ghost use Rattle.sheet.specs.Orders.{Shaped, Small, listRule, valueRules, listOrder, polynomialListOrder};
+ghost use Rattle.sheet.specs.Answers.{toPolynomial, toNormal, polynomialListAnswer, polynomialListReport, polynomialList, normalListAnswer, normalListReport, normalList};
 ghost use Rattle.sheet.specs.Lists.{firstLarge};
+ghost use Rattle.sheet.specs.Unreduced.{inNormal};
 use super::layout::CONJUGATE_AT;
 use super::layout::INVERSE_AT;
 use super::layout::RECORD;
 use super::loading::load_rows;
+use super::loading::polynomial_of;
 use super::shape::shape_verdict;
+use super::unreduced::convert_words;
+use super::unreduced::reduce_all;
 use field::too_large;
 use gf2::LIMIT;
 use refusals::Checked;
@@ -96,42 +101,88 @@ fn convert_values(rows: [u64; LIMIT], list: &mut [u64])
     }
 }
 
-// The list `from`, converted by the rows of one column into the list `into`.
-fn convert_list(sheet: &[u8], at: usize, from: &[u64], into: &mut [u64])
-    requires { ⌜ Shaped (now sheet) × (at + wordSize ≤ recordSize) × Listed (recordCount (now sheet)) (now from) (length (now into)) ⌝ }
-    ensures { λ r. ⌜ now (into .exit) ≡ map (comb (rowsIn (now (sheet .entry)) at)) (now (from .entry)) ⌝ }
+// Every word reduced and converted by the inverse rows, in the way that is faster for a list of its length.
+fn convert_unreduced(rows: [u64; LIMIT], f: u64, n: u32, list: &mut [u64])
+    requires { ⌜ InRange f n ⌝ }
+    ensures { λ r. ⌜ now (list .exit) ≡ map (inNormal f n rows) (now (list .entry)) ⌝ }
 {
-    let rows = load_rows(sheet, at);
+    if list.len() < TABLES_PAY {
+        reduce_all(f, n, list);
+        convert_all(&rows, list);
+    } else {
+        convert_words(&rows, f, n, list);
+    }
+}
+
+// The list `from` of normal coordinates, converted into the list `into`.
+fn fill_polynomials(sheet: &[u8], from: &[u64], into: &mut [u64])
+    requires { ⌜ Shaped (now sheet) × (length (now from) ≡ length (now into)) × Small (recordCount (now sheet)) (now from) ⌝ }
+    ensures { λ r. ⌜ now (into .exit) ≡ map (toPolynomial (now (sheet .entry))) (now (from .entry)) ⌝ }
+{
+    let rows = load_rows(sheet, CONJUGATE_AT);
     copy(from, into);
     convert_values(rows, into);
 }
 
-// 11, then 4 with the index of the first value that is too large.
-fn lengths_verdict(n: u32, from: &[u64], into: usize) -> Checked
-    requires { ⌜ n < 64 ⌝ }
-    ensures { λ r. ⌜ r ≡ checkedOf (firstOf (listRule (length (now (from .entry))) into ∷ valueRules n 0 (now (from .entry)))) ⌝ }
+// The list `from` of words, converted into the list `into`.
+fn fill_coordinates(sheet: &[u8], from: &[u64], into: &mut [u64])
+    requires { ⌜ Shaped (now sheet) × (length (now from) ≡ length (now into)) ⌝ }
+    ensures { λ r. ⌜ now (into .exit) ≡ map (toNormal (now (sheet .entry))) (now (from .entry)) ⌝ }
 {
-    if from.len() != into {
+    let rows = load_rows(sheet, INVERSE_AT);
+    copy(from, into);
+    convert_unreduced(
+        rows,
+        polynomial_of(sheet),
+        (sheet.len() / RECORD) as u32,
+        into,
+    );
+}
+
+// 11.
+fn lengths_verdict(values: usize, room: usize) -> Checked
+    ensures { λ r. ⌜ r ≡ checkedOf (firstOf (listRule values room ∷ [])) ⌝ }
+{
+    if values != room {
         return refused(11);
     }
-    if LIST_LIMIT < from.len() {
+    if LIST_LIMIT < values {
         return refused(11);
     }
-    let large = first_too_large(n, from);
-    if large < from.len() {
+    Checked::Done
+}
+
+// The shape, then 11.
+fn list_verdict(sheet: &[u8], values: usize, room: usize) -> Checked
+    ensures { λ r. ⌜ r ≡ checkedOf (firstOf (listOrder (now (sheet .entry)) values room)) ⌝ }
+{
+    let shape = shape_verdict(sheet);
+    match shape {
+        Checked::Refused(refusal) => Checked::Refused(refusal),
+        Checked::Done => lengths_verdict(values, room),
+    }
+}
+
+// 4 with the index of the first value that is too large.
+fn coordinates_verdict(n: u32, values: &[u64]) -> Checked
+    requires { ⌜ n < 64 ⌝ }
+    ensures { λ r. ⌜ r ≡ checkedOf (firstOf (valueRules n 0 (now (values .entry)))) ⌝ }
+{
+    let large = first_too_large(n, values);
+    if large < values.len() {
         return refused_at(4, large);
     }
     Checked::Done
 }
 
 // The shape, then 11 and 4.
-fn list_verdict(sheet: &[u8], from: &[u64], into: usize) -> Checked
-    ensures { λ r. ⌜ r ≡ checkedOf (firstOf (listOrder (now (sheet .entry)) (now (from .entry)) into)) ⌝ }
+fn polynomial_list_verdict(sheet: &[u8], from: &[u64], room: usize) -> Checked
+    ensures { λ r. ⌜ r ≡ checkedOf (firstOf (polynomialListOrder (now (sheet .entry)) (now (from .entry)) room)) ⌝ }
 {
-    let shape = shape_verdict(sheet);
-    match shape {
+    let list = list_verdict(sheet, from.len(), room);
+    match list {
         Checked::Refused(refusal) => Checked::Refused(refusal),
-        Checked::Done => lengths_verdict((sheet.len() / RECORD) as u32, from, into),
+        Checked::Done => coordinates_verdict((sheet.len() / RECORD) as u32, from),
     }
 }
 
@@ -141,27 +192,27 @@ pub fn list_to_polynomial(sheet: &[u8], from: &[u64], into: &mut [u64]) -> Check
     ensures report { λ r. ⌜ checkedReport r ≡ polynomialListReport (now (sheet .entry)) (now (from .entry)) (length (now (into .entry))) ⌝ }
     ensures written { λ r. ⌜ now (into .exit) ≡ polynomialList (now (sheet .entry)) (now (from .entry)) (now (into .entry)) ⌝ }
 {
-    let verdict = list_verdict(sheet, from, into.len());
+    let verdict = polynomial_list_verdict(sheet, from, into.len());
     match verdict {
         Checked::Refused(refusal) => Checked::Refused(refusal),
         Checked::Done => {
-            convert_list(sheet, CONJUGATE_AT, from, into);
+            fill_polynomials(sheet, from, into);
             Checked::Done
         }
     }
 }
 
-// The normal coordinates of a list of elements.
+// The normal coordinates of a list of elements, which may arrive unreduced.
 pub fn list_to_normal(sheet: &[u8], from: &[u64], into: &mut [u64]) -> Checked
     ensures answer { λ r. ⌜ r ≡ normalListAnswer (now (sheet .entry)) (now (from .entry)) (length (now (into .entry))) ⌝ }
     ensures report { λ r. ⌜ checkedReport r ≡ normalListReport (now (sheet .entry)) (now (from .entry)) (length (now (into .entry))) ⌝ }
     ensures written { λ r. ⌜ now (into .exit) ≡ normalList (now (sheet .entry)) (now (from .entry)) (now (into .entry)) ⌝ }
 {
-    let verdict = list_verdict(sheet, from, into.len());
+    let verdict = list_verdict(sheet, from.len(), into.len());
     match verdict {
         Checked::Refused(refusal) => Checked::Refused(refusal),
         Checked::Done => {
-            convert_list(sheet, INVERSE_AT, from, into);
+            fill_coordinates(sheet, from, into);
             Checked::Done
         }
     }

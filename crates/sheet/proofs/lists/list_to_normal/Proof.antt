@@ -1,14 +1,13 @@
 -- `sheet::lists::list_to_normal` meets its contract: it judges, and then works.
 -- Assumes nothing.
 use mathlib.Core.Path.{_∙_}
-use native.Mathlib.Omega.{arith}
 use borrow.Author.Needs.{needs}
 use lib.ListN.{length}
 use Rattle.refusals.specs.Verdicts.{firstOf}
 use Rattle.refusals.specs.Answered.{judged-clear, judged-verdict, judged-refused, judged-done, left-clear, left-refused, checked-promised}
 use Rattle.refusals.specs.declared.answer.Checked.the-variants as checked
 use Rattle.sheet.specs.Orders.{normalListOrder}
-use Rattle.sheet.specs.Answers.{toNormal, normalListAnswer, normalListReport, normalList}
+use Rattle.sheet.specs.Answers.{normalListAnswer, normalListReport, normalList}
 use Rattle.sheet.specs.Lists.{list-judged}
 use Rattle.sheet.proofs.lists.list_to_normal.Statement.{statement}
 use Rattle.sheet.proofs.lists.list_to_normal.Tie as tie
@@ -22,14 +21,14 @@ enum-known-verdict c = search needs
 enum-told : tie.Need-enum-told
 enum-told c = search needs
 
-convert-list-requires : tie.Need-convert-list-requires
-convert-list-requires c κs =
+fill-coordinates-requires : tie.Need-fill-coordinates-requires
+fill-coordinates-requires c κs =
     let e = c .before in
     let v = e .before .before in
     let s = v .before .before .before .before in
     let order = normalListOrder (s .args .sheet .now) (s .args .from .now) (length (s .args .into .now)) in
-    let j = list-judged (s .args .sheet .now) (s .args .from .now) (length (s .args .into .now)) (judged-clear (firstOf order) (v .list-verdict .ensures) (e .enum-told .given .1)) in
-    (j .0, omega arith, j .1)
+    let j = list-judged (s .args .sheet .now) (length (s .args .from .now)) (length (s .args .into .now)) (judged-clear (firstOf order) (v .list-verdict .ensures) (e .enum-told .given .1)) in
+    (j .0, j .1 .lengths)
 
 returns : tie.Need-returns
 unfolding normalListAnswer normalListReport normalList
@@ -44,7 +43,7 @@ same-length : tie.Need-same-length
 same-length c = search needs
 
 returns-2 : tie.Need-returns-2
-unfolding toNormal normalListAnswer normalListReport normalList
+unfolding normalListAnswer normalListReport normalList
 returns-2 c =
     let l = c .before .before in
     let e = l .before .before in
@@ -52,7 +51,7 @@ returns-2 c =
     let s = v .before .before .before .before in
     let order = normalListOrder (s .args .sheet .now) (s .args .from .now) (length (s .args .into .now)) in
     let p = checked-promised (firstOf order) (judged-done checked.Refused checked.Done (firstOf order) (v .list-verdict .ensures) (e .enum-told .given .1)) in
-    (p .0, (p .1, l .convert-list .ensures ∙ left-clear _ (s .args .into .now) (judged-clear (firstOf order) (v .list-verdict .ensures) (e .enum-told .given .1))))
+    (p .0, (p .1, l .fill-coordinates .ensures ∙ left-clear _ (s .args .into .now) (judged-clear (firstOf order) (v .list-verdict .ensures) (e .enum-told .given .1))))
 
 pub list-to-normal-spec : {M : Type 1} → statement M
 list-to-normal-spec =
@@ -61,7 +60,7 @@ list-to-normal-spec =
     list-verdict-requires
     enum-known-verdict
     enum-told
-    convert-list-requires
+    fill-coordinates-requires
     returns
     same-length
     returns-2)
