@@ -5,10 +5,10 @@
 --   issued-exactly, refused-otherwise   "a sheet is issued exactly when the element's conjugates are linearly independent"
 --   issued-buffer, issued-sheet         what the buffer then holds
 --   holds-..                            "it holds that element's conjugates in order of squaring and its multiplication table", and the rest
---   there-and-back, back-and-there      "converting to either notation and back returns the same value"
+--   there-and-back, back-and-there      "converting to either notation and back returns the same value": of any word, its remainder
 --   multiplies                          "multiplying through the table, then converting, equals polynomial multiplication"
 --   list-..-done, list-..-at            a list of values is converted, at every index as the value alone is
---   lists-there-and-back, ..back-and-there   the round trips of whole lists
+--   lists-there-and-back, ..back-and-there   the round trips of whole lists; ..-same: of values of the field
 --   read-exactly                        the sheets that build writes are exactly those that read accepts, with the same answer
 --   accepted-..                         so all of this holds of every sheet that reading accepts
 --
@@ -16,17 +16,18 @@
 use mathlib.Core.Path.{_≡_, refl, sym, ap, _∙_}
 use mathlib.Core.Logic.{_↔_, ⊎-elim}
 use mathlib.Core.Bool.{true, false}
-use mathlib.Core.List.{List, [], _∷_, _++_, map}
+use mathlib.Core.List.{List, _++_, map, map-id, map-map}
 use Prim.Native.Nat.{ℕ, _+_, _*_, _^_, _≤_, _<_}
 use native.Mathlib.Nat.{add-sub-of-le}
 use native.Mathlib.Omega.{arith}
 use lib.ListN.{length, getD, drop, take}
-use Rattle.gf2.specs.Poly.{degree, mulMod}
+use Rattle.gf2.specs.Poly.{degree, rem, mulMod}
+use Rattle.gf2.specs.Remainder.{rem-small, mulMod-rem-l, mulMod-rem-r}
 use Rattle.gf2.specs.Truth.{bool-cases}
 use Rattle.field.specs.Accepted.{Accepted}
 use Rattle.field.specs.Answers.{multiplyAnswer}
 use Rattle.field.specs.Field.{squared}
-use Rattle.field.specs.Refusals.{degreeRule, elementRule}
+use Rattle.field.specs.Refusals.{degreeRule}
 use Rattle.refusals.specs.Answers.{refusalAt, answerOf, valueOf}
 use Rattle.refusals.specs.Orders.{first-passes, first-none}
 use Rattle.refusals.specs.Verdicts.{Verdict}
@@ -36,15 +37,15 @@ use Rattle.rows.specs.Rows.{comb, Independent}
 use Rattle.normal.specs.Normal.{conjugates, normal}
 use Rattle.normal.specs.Coordinates.{normal-means}
 use Rattle.sheet.specs.Record.{recordSize, recordCount, degreeIn, rowIn, tailIn, conjugateIn, inverseIn, tableIn, polynomialIn, sheetBytes}
-use Rattle.sheet.specs.Orders.{listLimit}
+use Rattle.sheet.specs.Orders.{listLimit, Small}
 use Rattle.sheet.specs.Answers.{issuedOf, summaryOf, summaryIn, buildAnswer, builtBuffer, toPolynomial, polynomialAnswer, toNormal, normalAnswer, throughTable, timesAnswer, readAnswer, polynomialListAnswer, polynomialList, normalListAnswer, normalList}
 use Rattle.sheet.specs.Issued.{build-answered, answered-based, build-buffer, build-sheet, read-answered, answered-sheet, polynomial-answered, normal-answered, times-answered, list-normal-answered, list-normal, list-polynomial-answered, list-polynomial}
 use Rattle.sheet.specs.Held.{held-degree, held-row, held-tail, held-conjugate, held-inverse, held-table}
 use Rattle.sheet.specs.Issuing.{free-based, based-degree, based-free, build-tied}
-use Rattle.sheet.specs.Lists.{map-length}
+use Rattle.sheet.specs.Lists.{map-length, map-agree, map-at, map-below, map-round}
 use Rattle.sheet.specs.Rebuilding.{sheetBytes-length}
 use Rattle.sheet.specs.Sheets.{Based, SheetOf}
-use Rattle.sheet.specs.Through.{values-small, element-lt, coordinates-lt, there-back, back-there, product-lt, product-of, map-at, map-below, map-round}
+use Rattle.sheet.specs.Through.{coordinates-lt, there-back, back-there, product-lt, product-of}
 use Rattle.sheet.specs.declared.answer.Summary.{Summary}
 use Rattle.sheet.specs.declared.answer.Issued.the-variants as issued
 
@@ -108,25 +109,30 @@ module _ (f n a : ℕ) (sheet : List ℕ) (s : SheetOf f n a sheet) where
 
   -- ---- converting and multiplying
 
-  -- "for every value of the field, converting to either notation and back returns the same value"
-  pub there-and-back : (y : ℕ) → y < 2 ^ n → (v : ℕ) × (normalAnswer sheet y ≡ value.Done v) × (polynomialAnswer sheet v ≡ value.Done y)
-  there-and-back y h =
-      let v : ℕ = toNormal sheet y in
-      (v, normal-answered f n a sheet s y h, polynomial-answered f n a sheet s v (coordinates-lt f n a sheet s y h) ∙ ap value.Done (there-back f n a sheet s y h))
+  -- "for every value of the field, converting to either notation and back returns the same value"; "Demand 2's return trip from the
+  -- polynomial side gives the remainder" (document 02, §6), which for a value of the field is the value (`there-and-back-same`)
+  pub there-and-back : (word : ℕ) → (v : ℕ) × (normalAnswer sheet word ≡ value.Done v) × (polynomialAnswer sheet v ≡ value.Done (rem f n word))
+  there-and-back word =
+      let v : ℕ = toNormal sheet word in
+      (v, normal-answered f n a sheet s word, polynomial-answered f n a sheet s v (coordinates-lt f n a sheet s word) ∙ ap value.Done (there-back f n a sheet s word))
+
+  pub there-and-back-same : (y : ℕ) → y < 2 ^ n → (v : ℕ) × (normalAnswer sheet y ≡ value.Done v) × (polynomialAnswer sheet v ≡ value.Done y)
+  there-and-back-same y h = let x = there-and-back y in (x .0, x .1, x .2 ∙ ap value.Done (rem-small f n y h))
 
   pub back-and-there : (v : ℕ) → v < 2 ^ n → (y : ℕ) × (polynomialAnswer sheet v ≡ value.Done y) × (normalAnswer sheet y ≡ value.Done v)
   back-and-there v h =
       let y : ℕ = toPolynomial sheet v in
-      (y, polynomial-answered f n a sheet s v h, normal-answered f n a sheet s y (element-lt f n a sheet s v h) ∙ ap value.Done (back-there f n a sheet s v h))
+      (y, polynomial-answered f n a sheet s v h, normal-answered f n a sheet s y ∙ ap value.Done (back-there f n a sheet s v h))
 
-  pub multiplied : (x y : ℕ) → x < 2 ^ n → y < 2 ^ n → multiplyAnswer f x y ≡ value.Done (mulMod f n x y)
+  -- of any words: their product modulo f is that of their remainders
+  pub multiplied : (x y : ℕ) → multiplyAnswer f x y ≡ value.Done (mulMod f n x y)
   unfolding multiplyAnswer answerOf
-  multiplied x y hx hy =
+  multiplied x y =
       let e : degree f ≡ n = s .based .has-degree in
+      let deg = based-degree f n a (s .based) in
       rw e
-      (ap (λ (w : Verdict). valueOf w (mulMod f n x y))
-      (first-passes (degreeRule f) _ (s .based .accepted .in-range)
-      ∙ first-passes (elementRule n (x ∷ y ∷ [])) _ (values-small n x y hx hy) ∙ first-none))
+      (ap (λ (w : Verdict). valueOf w (mulMod f n (rem f n x) (rem f n y))) (first-passes (degreeRule f) _ (s .based .accepted .in-range) ∙ first-none)
+      ∙ ap value.Done (mulMod-rem-l f n deg x (rem f n y) ∙ mulMod-rem-r f n deg x y))
 
   -- "multiplying through the table, then converting, equals polynomial multiplication modulo the defining polynomial": u and v stand for
   -- x and y, their product w stands for z, and z is what the call multiply answers for x and y, their product modulo f
@@ -146,47 +152,57 @@ module _ (f n a : ℕ) (sheet : List ℕ) (s : SheetOf f n a sheet) where
         polynomial-answered f n a sheet s u hu,
         polynomial-answered f n a sheet s v hv,
         polynomial-answered f n a sheet s w (product-lt f n a sheet s u v hv) ∙ ap value.Done (product-of f n a sheet s u v hu hv),
-        multiplied x y (element-lt f n a sheet s u hu) (element-lt f n a sheet s v hv),
+        multiplied x y,
         refl,
       )
 
-  -- ---- lists of up to 4,096 values of the field
+  -- ---- lists of up to 4,096 words, and of up to 4,096 coordinate numbers
 
-  module _ (from : List ℕ) (short : length from ≤ listLimit) (all : (i : ℕ) → i < length from → getD from i 0 < 2 ^ n) where
+  module _ (from : List ℕ) (short : length from ≤ listLimit) where
     pub list-normal-done : normalListAnswer sheet from (length from) ≡ checked.Done
-    list-normal-done = list-normal-answered f n a sheet s from short all
-
-    pub list-polynomial-done : polynomialListAnswer sheet from (length from) ≡ checked.Done
-    list-polynomial-done = list-polynomial-answered f n a sheet s from short all
+    list-normal-done = list-normal-answered f n a sheet s from short
 
     module _ (into : List ℕ) (e : length into ≡ length from) where
-      -- the conversion rule at every index, in either direction
+      -- the conversion rule at every index
       pub list-normal-at : (i : ℕ) → i < length from → normalAnswer sheet (getD from i 0) ≡ value.Done (getD (normalList sheet from into) i 0)
       list-normal-at i h =
-          normal-answered f n a sheet s (getD from i 0) (all i h)
-          ∙ ap value.Done (sym (ap (λ (l : List ℕ). getD l i 0) (list-normal f n a sheet s from short all into e) ∙ map-at (toNormal sheet) from i h))
+          normal-answered f n a sheet s (getD from i 0)
+          ∙ ap value.Done (sym (ap (λ (l : List ℕ). getD l i 0) (list-normal f n a sheet s from short into e) ∙ map-at (toNormal sheet) from i h))
 
-      pub list-polynomial-at : (i : ℕ) → i < length from → polynomialAnswer sheet (getD from i 0) ≡ value.Done (getD (polynomialList sheet from into) i 0)
-      list-polynomial-at i h =
-          polynomial-answered f n a sheet s (getD from i 0) (all i h)
-          ∙ ap value.Done (sym (ap (λ (l : List ℕ). getD l i 0) (list-polynomial f n a sheet s from short all into e) ∙ map-at (toPolynomial sheet) from i h))
+      -- there and back: the remainders
+      pub lists-there-and-back : (other : List ℕ) → length other ≡ length from → polynomialList sheet (normalList sheet from into) other ≡ map (rem f n) from
+      lists-there-and-back other o =
+          let there : ℕ → ℕ = toNormal sheet in
+          let size : length (map there from) ≡ length from = map-length there from in
+          ap (λ (l : List ℕ). polynomialList sheet l other) (list-normal f n a sheet s from short into e)
+          ∙ list-polynomial f n a sheet s (map there from) (rw size short) (map-below there (2 ^ n) (coordinates-lt f n a sheet s) from) other (o ∙ sym size)
+          ∙ map-map (toPolynomial sheet) there from
+          ∙ map-agree (λ word. toPolynomial sheet (there word)) (rem f n) from (λ i h. there-back f n a sheet s (getD from i 0))
 
-      module _ (other : List ℕ) (o : length other ≡ length from) where
-        pub lists-there-and-back : polynomialList sheet (normalList sheet from into) other ≡ from
-        lists-there-and-back =
-            let there : ℕ → ℕ = toNormal sheet in
-            let size : length (map there from) ≡ length from = map-length there from in
-            ap (λ (l : List ℕ). polynomialList sheet l other) (list-normal f n a sheet s from short all into e)
-            ∙ list-polynomial f n a sheet s (map there from) (rw size short) (map-below there (2 ^ n) (coordinates-lt f n a sheet s) from all) other (o ∙ sym size)
-            ∙ map-round there (toPolynomial sheet) (2 ^ n) (there-back f n a sheet s) from all
+    module _ (all : Small n from) where
+      pub list-polynomial-done : polynomialListAnswer sheet from (length from) ≡ checked.Done
+      list-polynomial-done = list-polynomial-answered f n a sheet s from short all
 
-        pub lists-back-and-there : normalList sheet (polynomialList sheet from into) other ≡ from
-        lists-back-and-there =
-            let there : ℕ → ℕ = toPolynomial sheet in
-            let size : length (map there from) ≡ length from = map-length there from in
-            ap (λ (l : List ℕ). normalList sheet l other) (list-polynomial f n a sheet s from short all into e)
-            ∙ list-normal f n a sheet s (map there from) (rw size short) (map-below there (2 ^ n) (element-lt f n a sheet s) from all) other (o ∙ sym size)
-            ∙ map-round there (toNormal sheet) (2 ^ n) (back-there f n a sheet s) from all
+      module _ (into : List ℕ) (e : length into ≡ length from) where
+        pub list-polynomial-at : (i : ℕ) → i < length from → polynomialAnswer sheet (getD from i 0) ≡ value.Done (getD (polynomialList sheet from into) i 0)
+        list-polynomial-at i h =
+            polynomial-answered f n a sheet s (getD from i 0) (all i h)
+            ∙ ap value.Done (sym (ap (λ (l : List ℕ). getD l i 0) (list-polynomial f n a sheet s from short all into e) ∙ map-at (toPolynomial sheet) from i h))
+
+        module _ (other : List ℕ) (o : length other ≡ length from) where
+          -- the list that came, if its values are of the field
+          pub lists-there-and-back-same : polynomialList sheet (normalList sheet from into) other ≡ from
+          lists-there-and-back-same =
+              lists-there-and-back into e other o
+              ∙ map-agree (rem f n) (λ y. y) from (λ i h. rem-small f n (getD from i 0) (all i h)) ∙ map-id from
+
+          pub lists-back-and-there : normalList sheet (polynomialList sheet from into) other ≡ from
+          lists-back-and-there =
+              let there : ℕ → ℕ = toPolynomial sheet in
+              let size : length (map there from) ≡ length from = map-length there from in
+              ap (λ (l : List ℕ). normalList sheet l other) (list-polynomial f n a sheet s from short all into e)
+              ∙ list-normal f n a sheet s (map there from) (rw size short) other (o ∙ sym size)
+              ∙ map-round there (toNormal sheet) (2 ^ n) (back-there f n a sheet s) from all
 
 -- ---- reading
 
@@ -236,7 +252,8 @@ module _ (sheet : List ℕ) (t : Summary) (r : readAnswer sheet ≡ issued.Done 
   pub accepted-summary : t ≡ summaryIn sheet
   accepted-summary = sym (answered-sheet sheet t r .1)
 
-  pub accepted-there-and-back : (y : ℕ) → y < 2 ^ recordCount sheet → (v : ℕ) × (normalAnswer sheet y ≡ value.Done v) × (polynomialAnswer sheet v ≡ value.Done y)
+  pub accepted-there-and-back : (word : ℕ)
+      → (v : ℕ) × (normalAnswer sheet word ≡ value.Done v) × (polynomialAnswer sheet v ≡ value.Done (rem (polynomialIn sheet) (recordCount sheet) word))
   accepted-there-and-back = there-and-back (polynomialIn sheet) (recordCount sheet) (conjugateIn sheet 0) sheet accepted-sheet
 
   pub accepted-back-and-there : (v : ℕ) → v < 2 ^ recordCount sheet → (y : ℕ) × (polynomialAnswer sheet v ≡ value.Done y) × (normalAnswer sheet y ≡ value.Done v)

@@ -38,7 +38,7 @@ use Rattle.sheet.specs.Answers.{readAnswer, toPolynomial, polynomialAnswer, thr
 use Rattle.sheet.specs.Divided.{inverse-earlier, inverse-of-zero, inverse-steps, quotient-earlier, quotient-by-zero, quotient-steps, divisor-clear, quotient-through, zero-quotient, inverse-answered, quotient-answered, power-below, power-element, inverse-below, inverse-element, quotient-below, product-inverse, inverse-product, quotient-product, quotient-alone, one-below, one-element}
 use Rattle.sheet.specs.Issued.{polynomial-answered, times-answered}
 use Rattle.sheet.specs.Sheets.{SheetOf}
-use Rattle.sheet.specs.Through.{element-lt, product-of}
+use Rattle.sheet.specs.Through.{product-of}
 use Rattle.sheet.specs.declared.answer.Summary.{Summary}
 use Rattle.sheet.specs.declared.answer.Issued.the-variants as issued
 use Rattle.promises.specs.Calls.{Run, inverse, quotient}
@@ -82,7 +82,7 @@ module _ (f n a : ℕ) (sheet : List ℕ) (s : SheetOf f n a sheet) where
         polynomial-answered f n a sheet s v h,
         polynomial-answered f n a sheet s w hw,
         inverse-element f n a sheet s v h,
-        multiplied f n a sheet s x y (element-lt f n a sheet s v h) (element-lt f n a sheet s w hw) ∙ ap value.Done (unit v p h),
+        multiplied f n a sheet s x y ∙ ap value.Done (unit v p h),
         times-answered f n a sheet s w v hw h ∙ ap value.Done (inverse-product f n a sheet s v h p),
         times-answered f n a sheet s v w h hw ∙ ap value.Done (product-inverse f n a sheet s v h p),
         polynomial-answered f n a sheet s (2 ^ n - 1) (one-below f n a sheet s) ∙ ap value.Done (one-element f n a sheet s),

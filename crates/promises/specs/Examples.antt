@@ -16,18 +16,18 @@
 use mathlib.Core.Path.{_≡_, refl}
 use mathlib.Core.Bool.{Bool, false, not, _&&_}
 use mathlib.Core.List.{List, [], _∷_, _++_}
-use Prim.Native.Nat.{ℕ, _+_, _*_, _^_}
+use Prim.Native.Nat.{ℕ, _+_, _-_, _*_, _^_}
 use lib.Count.{ones, onesIn}
 use lib.Dec.{ltb, eqb}
 use lib.ListN.{drop, replicate, set}
 use Rattle.gf2.specs.Poly.{_⊕_, digitsFrom, digits, product, degree, reduce, rem, mulMod, divides}
 use Rattle.gf2.specs.Bounded.{some, first}
-use Rattle.field.specs.Field.{squared, powMod}
+use Rattle.field.specs.Field.{squared, powMod, traceTo, trace}
 use Rattle.field.specs.Accepted.{degreeOutside, divided, strays}
 use Rattle.refusals.specs.Verdicts.{firstOf}
 use Rattle.field.specs.Refusals.{tooLarge}
 use Rattle.refusals.specs.Answers.{Report, reportOf, left}
-use Rattle.field.specs.Answers.{checkReport}
+use Rattle.field.specs.Answers.{checkReport, multiplyReport, squareReport, traceReport}
 use Rattle.rows.specs.Bits.{bitOf}
 use Rattle.rows.specs.Rows.{comb, independent}
 use Rattle.normal.specs.Normal.{conjugatesFrom, conjugates, normal, dependency, coordinates, listed, inverseRows, tableRows, complexity}
@@ -36,7 +36,7 @@ use Rattle.normal.specs.TableProduct.{rotate, rotatedBy, total, productBit, tab
 use Rattle.normal.specs.Powers.{powerWithin, powerOf, inverseOf, quotientOf}
 use Rattle.sheet.specs.Record.{recordSize, conjugateRowsIn, inverseRowsIn, tableRowsIn, bytesOf, numberIn, recordBytes, recordsTo, sheetBytes, columnIn, rowsIn, recordAt}
 use Rattle.sheet.specs.Orders.{badLength, misplaced, oversized, same, recordRules, differRules, valueRules}
-use Rattle.sheet.specs.Answers.{Issue, issueOf, summaryOf, buildReport, builtBuffer, readReport, toPolynomial, polynomialReport, toNormal, normalReport, throughTable, timesReport}
+use Rattle.sheet.specs.Answers.{Issue, issueOf, summaryOf, buildReport, builtBuffer, readReport, toPolynomial, polynomialReport, elementIn, toNormal, normalReport, throughTable, timesReport}
 use Rattle.divisors.specs.Smallest.{smallestDivisor}
 use Rattle.causes.specs.Causes.{numberOf, firstField, differenceIn, polynomialCause, basisCause, sheetCause, causeOf, whyReport, whyCheckAnswer, whyBuildAnswer, fieldNumber, causeReport, reasonOf}
 use Rattle.causes.specs.declared.answer.Cause.the-variants as cause
@@ -98,7 +98,7 @@ pub examples : Issued 7 2 (2 ∷ 3 ∷ []) (3 ∷ 1 ∷ []) (2 ∷ 3 ∷ []) 3 3
     × Issued 19 9 (9 ∷ 13 ∷ 14 ∷ 11 ∷ []) (15 ∷ 9 ∷ 3 ∷ 14 ∷ []) (2 ∷ 11 ∷ 5 ∷ 13 ∷ []) 9 0
     × Rejected 5 2
     × Rejected 3 1
-unfolding buildReport builtBuffer left checkReport polynomialReport normalReport timesReport reportOf issueOf summaryOf toPolynomial toNormal throughTable firstOf badLength misplaced oversized recordRules valueRules tooLarge columnIn numberIn rowsIn bytesOf recordBytes recordsTo sheetBytes degreeOutside divided strays divides degree some first normal independent conjugates conjugatesFrom squared inverseRows tableRows listed coordinates comb mulMod rem reduce product digits digitsFrom _⊕_ complexity ones onesIn gradeOf kindOf gradeNumber powMod tableProduct productBit total bitOf
+unfolding buildReport builtBuffer left checkReport polynomialReport normalReport timesReport reportOf issueOf summaryOf toPolynomial elementIn toNormal throughTable firstOf badLength misplaced oversized recordRules valueRules tooLarge columnIn numberIn rowsIn bytesOf recordBytes recordsTo sheetBytes degreeOutside divided strays divides degree some first normal independent conjugates conjugatesFrom squared inverseRows tableRows listed coordinates comb mulMod rem reduce product digits digitsFrom _⊕_ complexity ones onesIn gradeOf kindOf gradeNumber powMod tableProduct productBit total bitOf
 examples = ((refl, refl, refl, refl), refl, refl, refl, (refl, refl, refl, refl), refl, refl, (refl, refl), (refl, refl, refl, refl), (refl, refl, refl, refl), refl, refl)
 
 -- ---- the line on the sheet file
@@ -138,6 +138,14 @@ quotients = (refl, refl, refl)
 pub factors-in-order : (inverseOf 3 (0 ∷ 0 ∷ 1 ∷ []) 1 ≡ 4) × (inverseOf 4 (0 ∷ 0 ∷ 0 ∷ 1 ∷ []) 3 ≡ 8) × (quotientOf 4 (0 ∷ 0 ∷ 0 ∷ 1 ∷ []) 3 3 ≡ 1)
 unfolding quotientOf inverseOf powerOf powerWithin rotate rotatedBy tableProduct productBit total bitOf
 factors-in-order = (refl, refl, refl)
+
+-- ---- elements that arrive unreduced (document 02, §6)
+
+-- modulo 11: 2^64 - 1 is 1, 2^63 is 1, 11 is 0, and 11 + 6 in the field's sum, 13, is 6
+pub unreduced : (multiplyReport 11 (2 ^ 64 - 1) 13 ≡ done 6) × (squareReport 11 13 ≡ done 2) × (traceReport 11 (2 ^ 63) ≡ done 1) × (traceReport 11 11 ≡ done 0)
+    × Converted 11 3 13 3 × Converted 11 3 (2 ^ 64 - 1) 7 × Converted 11 3 11 0
+unfolding multiplyReport squareReport traceReport trace traceTo normalReport reportOf elementIn toNormal builtBuffer left firstOf badLength misplaced oversized recordRules tooLarge columnIn numberIn rowsIn bytesOf recordBytes recordsTo sheetBytes degreeOutside divided strays divides degree some first normal independent conjugates conjugatesFrom squared inverseRows tableRows listed coordinates comb mulMod rem reduce product digits digitsFrom _⊕_
+unreduced = (refl, refl, refl, refl, refl, refl, refl)
 
 -- ---- grades (document 02, §3)
 

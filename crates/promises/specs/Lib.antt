@@ -9,8 +9,10 @@ pub mod Division
 pub mod Examples
 pub mod Exports
 pub mod Grades
+pub mod Kept
 pub mod Listed
 pub mod Matrices
 pub mod Performed
 pub mod Refused
 pub mod RefusedExports
+pub mod Unreduced

@@ -1,13 +1,13 @@
 -- The numbers that each call's order has, as the documents list them, and the places that its table has for them ("Refusal numbers",
--- "Orders."; document 02, §1 and §4): every rule of the order has such a number and such a place.
+-- "Orders."; document 02, §1, §4 and §6): every rule of the order has such a number and such a place.
 --
---   OnShape, OnValue, OnDivision, OnList, OnReading, OnWritingText   the numbers and places of the calls on a sheet of m records
+--   OnShape, OnValue, OnDivision, OnWords, OnList, OnReading, OnWritingText   the numbers and places of the calls on a sheet of m records
 --   OnReadingText                                            those of reading a text of the matrices, for f of degree n
 --   ..-listed, ..-positive                            an order has these, and none of the numbers is 0
 --   field-orders, ..-sequence                         the numbers of an order, one after another, are those that the documents list
 --
 -- Assumes nothing.
-use mathlib.Core.Path.{_≡_, refl, ap, _∙_}
+use mathlib.Core.Path.{_≡_, refl, ap, ap₂, _∙_}
 use mathlib.Core.Logic.{_⊎_, inl, inr}
 use mathlib.Core.List.{List, [], _∷_, _++_}
 use Prim.Native.Nat.{ℕ, zero, suc, _+_, _≤_, _<_}
@@ -17,7 +17,7 @@ use Rattle.gf2.specs.Poly.{degree}
 use Rattle.refusals.specs.Verdicts.{Rule}
 use Rattle.field.specs.Refusals.{elementRule, multiplyOrder, squareOrder, traceOrder, checkOrder}
 use Rattle.sheet.specs.Record.{recordCount, conjugateIn, polynomialIn}
-use Rattle.sheet.specs.Orders.{recordRules, differRules, valueRules, listRule, zeroRule, shapeOrder, basisOrder, rebuiltFrom, buildOrder, readOrder, valueOrder, listOrder}
+use Rattle.sheet.specs.Orders.{recordRules, differRules, valueRules, listRule, zeroRule, shapeOrder, basisOrder, rebuiltFrom, buildOrder, readOrder, valueOrder, normalOrder, listOrder, polynomialListOrder, normalListOrder}
 use Rattle.sheet.specs.Listed.{OnShape, OnReading, shape-listed, read-listed}
 use Rattle.matrices.specs.Matrices.{matricesText, lineCount}
 use Rattle.matrices.specs.Orders.{textRoomRule, matchRule, writeTextOrder, readTextOrder}
@@ -29,14 +29,14 @@ use Rattle.refusals.specs.Telling.{every-append, every-also, listed-at-zero, at
 
 -- ---- orders whose places are all 0
 
-pub multiply-listed : (f a b : ℕ) → Every (AtZero (1 ∷ 4 ∷ [])) (multiplyOrder f a b)
-multiply-listed f a b = listed-at-zero (multiplyOrder f a b) refl
+pub multiply-listed : (f : ℕ) → Every (AtZero (1 ∷ [])) (multiplyOrder f)
+multiply-listed f = listed-at-zero (multiplyOrder f) refl
 
-pub square-listed : (f a : ℕ) → Every (AtZero (1 ∷ 4 ∷ [])) (squareOrder f a)
-square-listed f a = listed-at-zero (squareOrder f a) refl
+pub square-listed : (f : ℕ) → Every (AtZero (1 ∷ [])) (squareOrder f)
+square-listed f = listed-at-zero (squareOrder f) refl
 
-pub trace-listed : (f a : ℕ) → Every (AtZero (1 ∷ 4 ∷ 2 ∷ 3 ∷ [])) (traceOrder f a)
-trace-listed f a = listed-at-zero (traceOrder f a) refl
+pub trace-listed : (f : ℕ) → Every (AtZero (1 ∷ 2 ∷ 3 ∷ [])) (traceOrder f)
+trace-listed f = listed-at-zero (traceOrder f) refl
 
 pub check-listed : (f : ℕ) → Every (AtZero (1 ∷ 2 ∷ 3 ∷ [])) (checkOrder f)
 check-listed f = listed-at-zero (checkOrder f) refl
@@ -57,9 +57,13 @@ OnValue m k p = AtZero (4 ∷ []) k p ⊎ OnShape m k p
 abbrev pub OnDivision : (m : ℕ) → ℕ → ℕ → Type 0
 OnDivision m k p = AtZero (13 ∷ []) k p ⊎ OnValue m k p
 
--- "with 11 before 4", which has the index in a list of l values as its place
+-- of a list of words 11 alone
+abbrev pub OnWords : (m : ℕ) → ℕ → ℕ → Type 0
+OnWords m k p = AtZero (11 ∷ []) k p ⊎ OnShape m k p
+
+-- "with 11 before 4", which has the index in a list of l coordinate numbers as its place
 abbrev pub OnList : (m l : ℕ) → ℕ → ℕ → Type 0
-OnList m l k p = AtZero (11 ∷ []) k p ⊎ (Below (4 ∷ []) l k p ⊎ OnShape m k p)
+OnList m l k p = Below (4 ∷ []) l k p ⊎ OnWords m k p
 
 -- "then 6"
 abbrev pub OnWritingText : (m : ℕ) → ℕ → ℕ → Type 0
@@ -87,13 +91,19 @@ division-listed sheet values divisor =
     every-append (OnDivision m) (valueOrder sheet values) (zeroRule divisor ∷ [])
     (every-also (OnValue m) (OnDivision m) (λ k p h. inr h) (valueOrder sheet values) (value-listed sheet values)) (inl (inl refl, refl), tt)
 
-pub list-listed : (sheet from : List ℕ) (into : ℕ) → Every (OnList (recordCount sheet) (length from)) (listOrder sheet from into)
-list-listed sheet from into =
+pub words-listed : (sheet : List ℕ) (values room : ℕ) → Every (OnWords (recordCount sheet)) (listOrder sheet values room)
+words-listed sheet values room =
+    let m : ℕ = recordCount sheet in
+    every-append (OnWords m) (shapeOrder sheet) (listRule values room ∷ [])
+    (every-also (OnShape m) (OnWords m) (λ k p h. inr h) (shapeOrder sheet) (shape-listed sheet)) (inl (inl refl, refl), tt)
+
+pub list-listed : (sheet from : List ℕ) (room : ℕ) → Every (OnList (recordCount sheet) (length from)) (polynomialListOrder sheet from room)
+list-listed sheet from room =
     let m : ℕ = recordCount sheet in
     let l : ℕ = length from in
-    every-append (OnList m l) (shapeOrder sheet) (listRule l into ∷ valueRules m 0 from)
-    (every-also (OnShape m) (OnList m l) (λ k p h. inr (inr h)) (shapeOrder sheet) (shape-listed sheet))
-    (inl (inl refl, refl), every-also (Below (4 ∷ []) l) (OnList m l) (λ k p h. inr (inl h)) (valueRules m 0 from) (values-listed m l 0 from (omega arith)))
+    every-append (OnList m l) (listOrder sheet l room) (valueRules m 0 from)
+    (every-also (OnWords m) (OnList m l) (λ k p h. inr h) (listOrder sheet l room) (words-listed sheet l room))
+    (every-also (Below (4 ∷ []) l) (OnList m l) (λ k p h. inl h) (valueRules m 0 from) (values-listed m l 0 from (omega arith)))
 
 pub write-listed : (sheet : List ℕ) (room : ℕ) → Every (OnWritingText (recordCount sheet)) (writeTextOrder sheet room)
 write-listed sheet room =
@@ -110,7 +120,7 @@ text-listed f a text =
 
 -- ---- no number is 0
 
-shape-positive : (m k p : ℕ) → OnShape m k p → 0 < k
+pub shape-positive : (m k p : ℕ) → OnShape m k p → 0 < k
 shape-positive m k p (inl h) = at-zero-positive (7 ∷ []) refl k p h
 shape-positive m k p (inr h) = below-positive (8 ∷ 9 ∷ []) m refl k p h
 
@@ -122,10 +132,13 @@ pub division-positive : (m k p : ℕ) → OnDivision m k p → 0 < k
 division-positive m k p (inl h) = at-zero-positive (13 ∷ []) refl k p h
 division-positive m k p (inr h) = value-positive m k p h
 
+pub words-positive : (m k p : ℕ) → OnWords m k p → 0 < k
+words-positive m k p (inl h) = at-zero-positive (11 ∷ []) refl k p h
+words-positive m k p (inr h) = shape-positive m k p h
+
 pub list-positive : (m l k p : ℕ) → OnList m l k p → 0 < k
-list-positive m l k p (inl h) = at-zero-positive (11 ∷ []) refl k p h
-list-positive m l k p (inr (inl h)) = below-positive (4 ∷ []) l refl k p h
-list-positive m l k p (inr (inr h)) = shape-positive m k p h
+list-positive m l k p (inl h) = below-positive (4 ∷ []) l refl k p h
+list-positive m l k p (inr h) = words-positive m k p h
 
 pub read-positive : (m k p : ℕ) → OnReading m k p → 0 < k
 read-positive m k p (inl h) = at-zero-positive (2 ∷ 3 ∷ 5 ∷ []) refl k p h
@@ -142,12 +155,13 @@ text-positive n k p (inr h) = below-positive (14 ∷ []) (lineCount n + 1) refl 
 
 -- ---- the numbers one after another
 
--- "Multiply, square: 1, 4. Trace: 1, 4, 2, 3. Check of f: 1, 2, 3. Build: 1, 4, 6, 2, 3, 5. Search: 1, 4, 12, 2, 3."
-pub field-orders : (f a b room first last : ℕ)
-    → (numbersOf (multiplyOrder f a b) ≡ 1 ∷ 4 ∷ []) × (numbersOf (squareOrder f a) ≡ 1 ∷ 4 ∷ []) × (numbersOf (traceOrder f a) ≡ 1 ∷ 4 ∷ 2 ∷ 3 ∷ [])
+-- "Multiply, square: 1, 4. Trace: 1, 4, 2, 3.", which 4 has left (document 02, §6); "Check of f: 1, 2, 3. Build: 1, 4, 6, 2, 3, 5. Search:
+-- 1, 4, 12, 2, 3."
+pub field-orders : (f a room first last : ℕ)
+    → (numbersOf (multiplyOrder f) ≡ 1 ∷ []) × (numbersOf (squareOrder f) ≡ 1 ∷ []) × (numbersOf (traceOrder f) ≡ 1 ∷ 2 ∷ 3 ∷ [])
     × (numbersOf (checkOrder f) ≡ 1 ∷ 2 ∷ 3 ∷ []) × (numbersOf (buildOrder f a room) ≡ 1 ∷ 4 ∷ 6 ∷ 2 ∷ 3 ∷ 5 ∷ [])
     × (numbersOf (searchOrder f first last) ≡ 1 ∷ 4 ∷ 12 ∷ 2 ∷ 3 ∷ [])
-field-orders f a b room first last = (refl, refl, refl, refl, refl, refl)
+field-orders f a room first last = (refl, refl, refl, refl, refl, refl)
 
 -- "records from 0 upward with 8 before 9 in each"
 abbrev pub eightNine : (records : ℕ) → List ℕ
@@ -167,6 +181,10 @@ shape-then : (sheet : List ℕ) (rest : List Rule) → numbersOf (shapeOrder she
 shape-then sheet rest =
     numbers-append (shapeOrder sheet) rest ∙ ap (λ (l : List ℕ). 7 ∷ (l ++ numbersOf rest)) (records-sequence sheet 0 (recordCount sheet))
 
+-- "7, then records ..", and for a word that is converted no more (document 02, §6)
+pub normal-sequence : (sheet : List ℕ) → numbersOf (normalOrder sheet) ≡ 7 ∷ eightNine (recordCount sheet)
+normal-sequence sheet = ap (λ (l : List ℕ). 7 ∷ l) (records-sequence sheet 0 (recordCount sheet))
+
 -- "7, then records .., then 4"
 pub value-sequence : (sheet values : List ℕ) → numbersOf (valueOrder sheet values) ≡ 7 ∷ (eightNine (recordCount sheet) ++ (4 ∷ []))
 value-sequence sheet values = shape-then sheet (elementRule (recordCount sheet) values ∷ [])
@@ -182,12 +200,15 @@ unfolding valueRules
 fours n i [] = refl
 fours n i (v ∷ values) = ap (λ (l : List ℕ). 4 ∷ l) (fours n (i + 1) values)
 
--- "the same, with 11 before 4"
-pub list-sequence : (sheet from : List ℕ) (into : ℕ)
-    → numbersOf (listOrder sheet from into) ≡ 7 ∷ (eightNine (recordCount sheet) ++ (11 ∷ replicate (length from) 4))
-list-sequence sheet from into =
-    shape-then sheet (listRule (length from) into ∷ valueRules (recordCount sheet) 0 from)
-    ∙ ap (λ (l : List ℕ). 7 ∷ (eightNine (recordCount sheet) ++ (11 ∷ l))) (fours (recordCount sheet) 0 from)
+-- "the same, with 11 before 4", which a list of words has not
+pub words-sequence : (sheet from : List ℕ) (room : ℕ) → numbersOf (normalListOrder sheet from room) ≡ 7 ∷ (eightNine (recordCount sheet) ++ (11 ∷ []))
+words-sequence sheet from room = shape-then sheet (listRule (length from) room ∷ [])
+
+pub list-sequence : (sheet from : List ℕ) (room : ℕ)
+    → numbersOf (polynomialListOrder sheet from room) ≡ (7 ∷ (eightNine (recordCount sheet) ++ (11 ∷ []))) ++ replicate (length from) 4
+list-sequence sheet from room =
+    numbers-append (listOrder sheet (length from) room) (valueRules (recordCount sheet) 0 from)
+    ∙ ap₂ _++_ (words-sequence sheet from room) (fours (recordCount sheet) 0 from)
 
 tens : (sheet rebuilt : List ℕ) (i k : ℕ) → numbersOf (differRules sheet rebuilt i k) ≡ replicate k 10
 unfolding differRules

@@ -4,7 +4,7 @@
 --   check-accepts-exactly                                    what check accepts
 --   build-issues-exactly, build-refuses-else, build-writes   a sheet is issued exactly when it is due, and where it then stands
 --   read-accepts, read-gives                                 what reading accepts
---   returns-element, returns-coordinates                     there with one call and back with the other
+--   returns-remainder, returns-element, returns-coordinates  there with one call and back with the other
 --   multiplied-through                                       the product through the table against that of `multiply`
 --   list-..-each, lists-return-..                            lists, value by value and there and back
 --   search-names, search-names-none, search-in-parts         the search
@@ -13,11 +13,11 @@
 use mathlib.Core.Path.{_≡_, sym, ap₂, _∙_}
 use mathlib.Core.Logic.{_↔_}
 use mathlib.Core.Bool.{true}
-use mathlib.Core.List.{List, _++_}
+use mathlib.Core.List.{List, _++_, map}
 use Prim.Native.Nat.{ℕ, suc, _*_, _-_, _^_, _≤_, _<_}
 use lib.ListN.{length, getD, drop, take}
 use denote.Ref.{now}
-use Rattle.gf2.specs.Poly.{degree, mulMod}
+use Rattle.gf2.specs.Poly.{degree, rem, mulMod}
 use Rattle.field.specs.Accepted.{Accepted}
 use Rattle.field.specs.Checked.{check-accepts}
 use Rattle.refusals.specs.Answers.{refusalAt}
@@ -27,7 +27,7 @@ use Rattle.refusals.specs.declared.answer.Value.the-variants as value
 use Rattle.rows.specs.Rows.{Independent}
 use Rattle.normal.specs.Normal.{conjugates}
 use Rattle.sheet.specs.Record.{recordSize, recordCount, conjugateIn, polynomialIn, sheetBytes}
-use Rattle.sheet.specs.Orders.{listLimit}
+use Rattle.sheet.specs.Orders.{listLimit, Small}
 use Rattle.sheet.specs.Answers.{summaryOf, normalAnswer, polynomialAnswer}
 use Rattle.sheet.specs.Issued.{answered-based, build-buffer, build-sheet}
 use Rattle.sheet.specs.Sheets.{SheetOf}
@@ -38,7 +38,7 @@ use Rattle.search.specs.declared.answer.Best.{Best}
 use Rattle.search.specs.declared.answer.Search.the-variants.{Nothing, Found}
 use Rattle.promises.specs.Calls.{Run, check, multiply, build, read, to-polynomial, to-normal, times, list-to-polynomial, list-to-normal, search}
 use Rattle.promises.specs.Demand1.{check-is, multiply-is, build-is, read-is, to-polynomial-is, to-normal-is, times-is, list-to-polynomial-is, list-to-normal-is, search-is}
-use Rattle.promises.specs.Demand2.{Built, issued-exactly, refused-otherwise, read-exactly, accepted-sheet, there-and-back, back-and-there, multiplies, list-normal-done, list-polynomial-done, list-normal-at, list-polynomial-at, lists-there-and-back, lists-back-and-there}
+use Rattle.promises.specs.Demand2.{Built, issued-exactly, refused-otherwise, read-exactly, accepted-sheet, there-and-back, there-and-back-same, back-and-there, multiplies, list-normal-done, list-polynomial-done, list-normal-at, list-polynomial-at, lists-there-and-back, lists-there-and-back-same, lists-back-and-there}
 use Rattle.promises.specs.Demand3.{search-finds, search-finds-nothing, union-joined}
 
 -- ---- check
@@ -100,9 +100,16 @@ coordinates : (sheet : List ℕ) (y : ℕ) (r : Value) → normalAnswer sheet y 
 coordinates sheet y r e d es ey = to-normal-is d ∙ ap₂ (λ (s : List ℕ) (x : ℕ). normalAnswer s x) es ey ∙ e
 
 module _ (f n a : ℕ) (sheet : List ℕ) (s : SheetOf f n a sheet) where
-  -- "converting to either notation and back returns the same value"
+  -- "converting to either notation and back returns the same value", and of any word its remainder
+  pub returns-remainder : (word : ℕ) → (v : ℕ) × CoordinatesOf sheet word (value.Done v) × ElementOf sheet v (value.Done (rem f n word))
+  returns-remainder word =
+      let x = there-and-back f n a sheet s word in
+      (x .0, coordinates sheet word (value.Done (x .0)) (x .1), elements sheet (x .0) (value.Done (rem f n word)) (x .2))
+
   pub returns-element : (y : ℕ) → y < 2 ^ n → (v : ℕ) × CoordinatesOf sheet y (value.Done v) × ElementOf sheet v (value.Done y)
-  returns-element y h = let x = there-and-back f n a sheet s y h in (x .0, coordinates sheet y (value.Done (x .0)) (x .1), elements sheet (x .0) (value.Done y) (x .2))
+  returns-element y h =
+      let x = there-and-back-same f n a sheet s y h in
+      (x .0, coordinates sheet y (value.Done (x .0)) (x .1), elements sheet (x .0) (value.Done y) (x .2))
 
   pub returns-coordinates : (v : ℕ) → v < 2 ^ n → (y : ℕ) × ElementOf sheet v (value.Done y) × CoordinatesOf sheet y (value.Done v)
   returns-coordinates v h = let x = back-and-there f n a sheet s v h in (x .0, elements sheet v (value.Done (x .0)) (x .1), coordinates sheet (x .0) (value.Done v) (x .2))
@@ -125,39 +132,46 @@ module _ (f n a : ℕ) (sheet : List ℕ) (s : SheetOf f n a sheet) where
         p .9,
       )
 
--- ---- lists of up to 4,096 values of the field
+-- ---- lists of up to 4,096 words, and of up to 4,096 coordinate numbers
 
 -- a list that is lent to be read, and one as long to be written
-pub record Values (n : ℕ) (from into : List ℕ) : Type 0 where
+pub record Words (from into : List ℕ) : Type 0 where
   pub short : length from ≤ listLimit
   pub as-long : length into ≡ length from
-  pub below : (i : ℕ) → i < length from → getD from i 0 < 2 ^ n
 
-module _ (f n a : ℕ) (c : Run list-to-normal) (s : SheetOf f n a (now (c .args .0))) (l : Values n (now (c .args .1 .0)) (now (c .args .1 .1 .0))) where
-  -- done, and at every index as the value alone is
+module _ (f n a : ℕ) (c : Run list-to-normal) (s : SheetOf f n a (now (c .args .0))) (l : Words (now (c .args .1 .0)) (now (c .args .1 .1 .0))) where
+  -- done, and at every index as the word alone is
   pub list-normal-each : (c .result ≡ checked.Done)
       × ((i : ℕ) → i < length (now (c .args .1 .0)) → CoordinatesOf (now (c .args .0)) (getD (now (c .args .1 .0)) i 0) (value.Done (getD (now (c .exit .1 .1 .0)) i 0)))
   list-normal-each = (
-    list-to-normal-is c .0 ∙ rw (l .as-long) (list-normal-done f n a (now (c .args .0)) s (now (c .args .1 .0)) (l .short) (l .below)),
+    list-to-normal-is c .0 ∙ rw (l .as-long) (list-normal-done f n a (now (c .args .0)) s (now (c .args .1 .0)) (l .short)),
     λ i h. coordinates (now (c .args .0)) (getD (now (c .args .1 .0)) i 0) _
-        (rw (list-to-normal-is c .1) (list-normal-at f n a (now (c .args .0)) s (now (c .args .1 .0)) (l .short) (l .below) (now (c .args .1 .1 .0)) (l .as-long) i h)),
+        (rw (list-to-normal-is c .1) (list-normal-at f n a (now (c .args .0)) s (now (c .args .1 .0)) (l .short) (now (c .args .1 .1 .0)) (l .as-long) i h)),
   )
 
-  -- what list_to_polynomial then makes of it is the list that came
-  pub lists-return-elements : (d : Run list-to-polynomial) → now (d .args .0) ≡ now (c .args .0) → now (d .args .1 .0) ≡ now (c .exit .1 .1 .0)
-      → length (now (d .args .1 .1 .0)) ≡ length (now (c .args .1 .0)) → now (d .exit .1 .1 .0) ≡ now (c .args .1 .0)
-  lists-return-elements d es ef o =
+  -- what list_to_polynomial then makes of it are the remainders of the words that came
+  pub lists-return-remainders : (d : Run list-to-polynomial) → now (d .args .0) ≡ now (c .args .0) → now (d .args .1 .0) ≡ now (c .exit .1 .1 .0)
+      → length (now (d .args .1 .1 .0)) ≡ length (now (c .args .1 .0)) → now (d .exit .1 .1 .0) ≡ map (rem f n) (now (c .args .1 .0))
+  lists-return-remainders d es ef o =
       list-to-polynomial-is d .1
       ∙ rw (es, ef, list-to-normal-is c .1)
-      (lists-there-and-back f n a (now (c .args .0)) s (now (c .args .1 .0)) (l .short) (l .below) (now (c .args .1 .1 .0)) (l .as-long) (now (d .args .1 .1 .0)) o)
+      (lists-there-and-back f n a (now (c .args .0)) s (now (c .args .1 .0)) (l .short) (now (c .args .1 .1 .0)) (l .as-long) (now (d .args .1 .1 .0)) o)
 
-module _ (f n a : ℕ) (c : Run list-to-polynomial) (s : SheetOf f n a (now (c .args .0))) (l : Values n (now (c .args .1 .0)) (now (c .args .1 .1 .0))) where
+  -- and if these were values of the field, the list that came
+  pub lists-return-elements : Small n (now (c .args .1 .0)) → (d : Run list-to-polynomial) → now (d .args .0) ≡ now (c .args .0) → now (d .args .1 .0) ≡ now (c .exit .1 .1 .0)
+      → length (now (d .args .1 .1 .0)) ≡ length (now (c .args .1 .0)) → now (d .exit .1 .1 .0) ≡ now (c .args .1 .0)
+  lists-return-elements all d es ef o =
+      list-to-polynomial-is d .1
+      ∙ rw (es, ef, list-to-normal-is c .1)
+      (lists-there-and-back-same f n a (now (c .args .0)) s (now (c .args .1 .0)) (l .short) all (now (c .args .1 .1 .0)) (l .as-long) (now (d .args .1 .1 .0)) o)
+
+module _ (f n a : ℕ) (c : Run list-to-polynomial) (s : SheetOf f n a (now (c .args .0))) (l : Words (now (c .args .1 .0)) (now (c .args .1 .1 .0))) (all : Small n (now (c .args .1 .0))) where
   pub list-polynomial-each : (c .result ≡ checked.Done)
       × ((i : ℕ) → i < length (now (c .args .1 .0)) → ElementOf (now (c .args .0)) (getD (now (c .args .1 .0)) i 0) (value.Done (getD (now (c .exit .1 .1 .0)) i 0)))
   list-polynomial-each = (
-    list-to-polynomial-is c .0 ∙ rw (l .as-long) (list-polynomial-done f n a (now (c .args .0)) s (now (c .args .1 .0)) (l .short) (l .below)),
+    list-to-polynomial-is c .0 ∙ rw (l .as-long) (list-polynomial-done f n a (now (c .args .0)) s (now (c .args .1 .0)) (l .short) all),
     λ i h. elements (now (c .args .0)) (getD (now (c .args .1 .0)) i 0) _
-        (rw (list-to-polynomial-is c .1) (list-polynomial-at f n a (now (c .args .0)) s (now (c .args .1 .0)) (l .short) (l .below) (now (c .args .1 .1 .0)) (l .as-long) i h)),
+        (rw (list-to-polynomial-is c .1) (list-polynomial-at f n a (now (c .args .0)) s (now (c .args .1 .0)) (l .short) all (now (c .args .1 .1 .0)) (l .as-long) i h)),
   )
 
   pub lists-return-coordinates : (d : Run list-to-normal) → now (d .args .0) ≡ now (c .args .0) → now (d .args .1 .0) ≡ now (c .exit .1 .1 .0)
@@ -165,7 +179,7 @@ module _ (f n a : ℕ) (c : Run list-to-polynomial) (s : SheetOf f n a (now (c .
   lists-return-coordinates d es ef o =
       list-to-normal-is d .1
       ∙ rw (es, ef, list-to-polynomial-is c .1)
-      (lists-back-and-there f n a (now (c .args .0)) s (now (c .args .1 .0)) (l .short) (l .below) (now (c .args .1 .1 .0)) (l .as-long) (now (d .args .1 .1 .0)) o)
+      (lists-back-and-there f n a (now (c .args .0)) s (now (c .args .1 .0)) (l .short) all (now (c .args .1 .1 .0)) (l .as-long) (now (d .args .1 .1 .0)) o)
 
 -- ---- the search
 

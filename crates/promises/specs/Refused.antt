@@ -22,7 +22,7 @@ use Rattle.field.specs.Answers.{checkAnswer, multiplyAnswer, squareAnswer, trac
 use Rattle.field.specs.Refusals.{multiplyOrder, squareOrder, traceOrder, checkOrder}
 use Rattle.sheet.specs.Record.{recordCount}
 use Rattle.sheet.specs.Orders.{buildOrder, readOrder, polynomialOrder, normalOrder, timesOrder, inverseOrder, quotientOrder, polynomialListOrder, normalListOrder}
-use Rattle.sheet.specs.Listed.{OnReading, read-listed}
+use Rattle.sheet.specs.Listed.{OnShape, OnReading, shape-listed, read-listed}
 use Rattle.sheet.specs.Answers.{issueOf, issuedOf, issuedReport, buildAnswer, builtBuffer, readAnswer, polynomialAnswer, normalAnswer, timesAnswer, inverseAnswer, quotientAnswer, polynomialListAnswer, polynomialList, normalListAnswer, normalList}
 use Rattle.sheet.specs.Answered.{issued-report}
 use Rattle.sheet.specs.declared.answer.Summary.{Summary}
@@ -39,7 +39,7 @@ use Rattle.search.specs.declared.answer.Search.the-variants as searched
 use Rattle.promises.specs.Calls as calls
 use Rattle.promises.specs.Calls.{Run}
 use Rattle.promises.specs.Demand1.{check-is, multiply-is, square-is, trace-is, build-is, read-is, to-polynomial-is, to-normal-is, times-is, inverse-is, quotient-is, list-to-polynomial-is, list-to-normal-is, write-matrices-is, read-matrices-is, search-is}
-use Rattle.promises.specs.Listed.{OnValue, OnDivision, OnList, OnWritingText, OnReadingText, multiply-listed, square-listed, trace-listed, check-listed, build-listed, search-listed, value-listed, value-positive, division-listed, division-positive, list-listed, list-positive, read-positive, write-listed, write-positive, text-listed, text-positive}
+use Rattle.promises.specs.Listed.{OnValue, OnDivision, OnWords, OnList, OnWritingText, OnReadingText, multiply-listed, square-listed, trace-listed, check-listed, build-listed, search-listed, shape-positive, value-listed, value-positive, division-listed, division-positive, words-listed, words-positive, list-listed, list-positive, read-positive, write-listed, write-positive, text-listed, text-positive}
 use Rattle.refusals.specs.Told.{AtZero, Every, Told, ValueTold, CheckedTold, numberOf, placeOf}
 use Rattle.refusals.specs.Telling.{nonzero, placed-zero, at-zero-positive, told, value-told, checked-told}
 
@@ -112,17 +112,17 @@ pub check-told : (c : Run calls.check) → CheckedTold (checkOrder (c .args .0))
 unfolding checkAnswer
 check-told c = rw (check-is c) (checked-told _ _ (check-listed (c .args .0)) (at-zero-positive (1 ∷ 2 ∷ 3 ∷ []) refl))
 
-pub multiply-told : (c : Run calls.multiply) → ValueTold (multiplyOrder (c .args .0) (c .args .1 .0) (c .args .1 .1 .0)) (AtZero (1 ∷ 4 ∷ [])) (c .result)
+pub multiply-told : (c : Run calls.multiply) → ValueTold (multiplyOrder (c .args .0)) (AtZero (1 ∷ [])) (c .result)
 unfolding multiplyAnswer
-multiply-told c = rw (multiply-is c) (value-told _ _ (multiply-listed (c .args .0) (c .args .1 .0) (c .args .1 .1 .0)) (at-zero-positive (1 ∷ 4 ∷ []) refl) _)
+multiply-told c = rw (multiply-is c) (value-told _ _ (multiply-listed (c .args .0)) (at-zero-positive (1 ∷ []) refl) _)
 
-pub square-told : (c : Run calls.square) → ValueTold (squareOrder (c .args .0) (c .args .1 .0)) (AtZero (1 ∷ 4 ∷ [])) (c .result)
+pub square-told : (c : Run calls.square) → ValueTold (squareOrder (c .args .0)) (AtZero (1 ∷ [])) (c .result)
 unfolding squareAnswer
-square-told c = rw (square-is c) (value-told _ _ (square-listed (c .args .0) (c .args .1 .0)) (at-zero-positive (1 ∷ 4 ∷ []) refl) _)
+square-told c = rw (square-is c) (value-told _ _ (square-listed (c .args .0)) (at-zero-positive (1 ∷ []) refl) _)
 
-pub trace-told : (c : Run calls.trace) → ValueTold (traceOrder (c .args .0) (c .args .1 .0)) (AtZero (1 ∷ 4 ∷ 2 ∷ 3 ∷ [])) (c .result)
+pub trace-told : (c : Run calls.trace) → ValueTold (traceOrder (c .args .0)) (AtZero (1 ∷ 2 ∷ 3 ∷ [])) (c .result)
 unfolding traceAnswer
-trace-told c = rw (trace-is c) (value-told _ _ (trace-listed (c .args .0) (c .args .1 .0)) (at-zero-positive (1 ∷ 4 ∷ 2 ∷ 3 ∷ []) refl) _)
+trace-told c = rw (trace-is c) (value-told _ _ (trace-listed (c .args .0)) (at-zero-positive (1 ∷ 2 ∷ 3 ∷ []) refl) _)
 
 -- ---- build and read
 
@@ -140,9 +140,9 @@ pub to-polynomial-told : (c : Run calls.to-polynomial) → ValueTold (polynomial
 unfolding polynomialAnswer
 to-polynomial-told c = rw (to-polynomial-is c) (value-told _ _ (value-listed (now (c .args .0)) (c .args .1 .0 ∷ [])) (value-positive (recordCount (now (c .args .0)))) _)
 
-pub to-normal-told : (c : Run calls.to-normal) → ValueTold (normalOrder (now (c .args .0)) (c .args .1 .0)) (OnValue (recordCount (now (c .args .0)))) (c .result)
+pub to-normal-told : (c : Run calls.to-normal) → ValueTold (normalOrder (now (c .args .0))) (OnShape (recordCount (now (c .args .0)))) (c .result)
 unfolding normalAnswer
-to-normal-told c = rw (to-normal-is c) (value-told _ _ (value-listed (now (c .args .0)) (c .args .1 .0 ∷ [])) (value-positive (recordCount (now (c .args .0)))) _)
+to-normal-told c = rw (to-normal-is c) (value-told _ _ (shape-listed (now (c .args .0))) (shape-positive (recordCount (now (c .args .0)))) _)
 
 pub times-told : (c : Run calls.times) → ValueTold (timesOrder (now (c .args .0)) (c .args .1 .0) (c .args .1 .1 .0)) (OnValue (recordCount (now (c .args .0)))) (c .result)
 unfolding timesAnswer
@@ -166,11 +166,11 @@ list-to-polynomial-told c =
     rw (list-to-polynomial-is c .0)
     (checked-told _ _ (list-listed (now (c .args .0)) (now (c .args .1 .0)) (length (now (c .args .1 .1 .0)))) (list-positive (recordCount (now (c .args .0))) (length (now (c .args .1 .0)))))
 
-pub list-to-normal-told : (c : Run calls.list-to-normal) → CheckedTold (normalListOrder (now (c .args .0)) (now (c .args .1 .0)) (length (now (c .args .1 .1 .0)))) (OnList (recordCount (now (c .args .0))) (length (now (c .args .1 .0)))) (c .result)
+pub list-to-normal-told : (c : Run calls.list-to-normal) → CheckedTold (normalListOrder (now (c .args .0)) (now (c .args .1 .0)) (length (now (c .args .1 .1 .0)))) (OnWords (recordCount (now (c .args .0)))) (c .result)
 unfolding normalListAnswer
 list-to-normal-told c =
     rw (list-to-normal-is c .0)
-    (checked-told _ _ (list-listed (now (c .args .0)) (now (c .args .1 .0)) (length (now (c .args .1 .1 .0)))) (list-positive (recordCount (now (c .args .0))) (length (now (c .args .1 .0)))))
+    (checked-told _ _ (words-listed (now (c .args .0)) (length (now (c .args .1 .0))) (length (now (c .args .1 .1 .0)))) (words-positive (recordCount (now (c .args .0)))))
 
 -- ---- the text of the matrices
 

@@ -18,7 +18,7 @@ use Rattle.field.specs.Answers.{checkAnswer, checkReport, multiplyAnswer, multi
 use Rattle.field.specs.Refusals.{multiplyOrder, squareOrder, traceOrder, checkOrder}
 use Rattle.sheet.specs.Record.{recordCount}
 use Rattle.sheet.specs.Orders.{buildOrder, readOrder, polynomialOrder, normalOrder, timesOrder, inverseOrder, quotientOrder, polynomialListOrder, normalListOrder}
-use Rattle.sheet.specs.Listed.{OnReading, read-listed}
+use Rattle.sheet.specs.Listed.{OnShape, OnReading, shape-listed, read-listed}
 use Rattle.sheet.specs.Answers.{issueOf, buildAnswer, buildReport, builtBuffer, readAnswer, readReport, polynomialAnswer, polynomialReport, normalAnswer, normalReport, timesAnswer, timesReport, inverseAnswer, inverseReport, quotientAnswer, quotientReport, polynomialListAnswer, polynomialListReport, polynomialList, normalListAnswer, normalListReport, normalList}
 use Rattle.sheet.specs.declared.answer.Summary.{Summary}
 use Rattle.sheet.specs.declared.answer.Issued.{Issued}
@@ -37,7 +37,7 @@ use Rattle.capi.specs.declared.answer.DeskFound.{DeskFound}
 use Rattle.promises.specs.Calls as calls
 use Rattle.promises.specs.Calls.{Run}
 use Rattle.promises.specs.Exports.{desk-check-is, desk-multiply-is, desk-square-is, desk-trace-is, desk-build-is, desk-read-is, desk-to-polynomial-is, desk-to-normal-is, desk-times-is, desk-inverse-is, desk-quotient-is, desk-list-to-polynomial-is, desk-list-to-normal-is, desk-write-matrices-is, desk-read-matrices-is, desk-search-is}
-use Rattle.promises.specs.Listed.{OnValue, OnDivision, OnList, OnWritingText, OnReadingText, multiply-listed, square-listed, trace-listed, check-listed, build-listed, search-listed, value-listed, value-positive, division-listed, division-positive, list-listed, list-positive, read-positive, write-listed, write-positive, text-listed, text-positive}
+use Rattle.promises.specs.Listed.{OnValue, OnDivision, OnWords, OnList, OnWritingText, OnReadingText, multiply-listed, square-listed, trace-listed, check-listed, build-listed, search-listed, shape-positive, value-listed, value-positive, division-listed, division-positive, words-listed, words-positive, list-listed, list-positive, read-positive, write-listed, write-positive, text-listed, text-positive}
 use Rattle.promises.specs.Refused.{issue-told, done-searched, answered-number}
 use Rattle.refusals.specs.Told.{AtZero, Every, Told, numberOf}
 use Rattle.refusals.specs.Telling.{nonzero, placed-zero, at-zero-positive, told, report-told, done-value, done-checked}
@@ -75,23 +75,20 @@ pub desk-check-told : (c : Run calls.desk-check) → DeskValueTold (checkOrder (
 unfolding checkAnswer checkReport
 desk-check-told c = rw (desk-check-is c) (report-told _ _ (check-listed (c .args .0)) (at-zero-positive (1 ∷ 2 ∷ 3 ∷ []) refl) _ (done-checked (firstOf (checkOrder (c .args .0)))) 0)
 
-pub desk-multiply-told : (c : Run calls.desk-multiply) → DeskValueTold (multiplyOrder (c .args .0) (c .args .1 .0) (c .args .1 .1 .0)) (AtZero (1 ∷ 4 ∷ [])) (Valued (multiplyAnswer (c .args .0) (c .args .1 .0) (c .args .1 .1 .0))) (c .result)
+pub desk-multiply-told : (c : Run calls.desk-multiply) → DeskValueTold (multiplyOrder (c .args .0)) (AtZero (1 ∷ [])) (Valued (multiplyAnswer (c .args .0) (c .args .1 .0) (c .args .1 .1 .0))) (c .result)
 unfolding multiplyAnswer multiplyReport
 desk-multiply-told c =
-    rw (desk-multiply-is c)
-    (report-told _ _ (multiply-listed (c .args .0) (c .args .1 .0) (c .args .1 .1 .0)) (at-zero-positive (1 ∷ 4 ∷ []) refl) _ (done-value (firstOf (multiplyOrder (c .args .0) (c .args .1 .0) (c .args .1 .1 .0))) _) _)
+    rw (desk-multiply-is c) (report-told _ _ (multiply-listed (c .args .0)) (at-zero-positive (1 ∷ []) refl) _ (done-value (firstOf (multiplyOrder (c .args .0))) _) _)
 
-pub desk-square-told : (c : Run calls.desk-square) → DeskValueTold (squareOrder (c .args .0) (c .args .1 .0)) (AtZero (1 ∷ 4 ∷ [])) (Valued (squareAnswer (c .args .0) (c .args .1 .0))) (c .result)
+pub desk-square-told : (c : Run calls.desk-square) → DeskValueTold (squareOrder (c .args .0)) (AtZero (1 ∷ [])) (Valued (squareAnswer (c .args .0) (c .args .1 .0))) (c .result)
 unfolding squareAnswer squareReport
 desk-square-told c =
-    rw (desk-square-is c)
-    (report-told _ _ (square-listed (c .args .0) (c .args .1 .0)) (at-zero-positive (1 ∷ 4 ∷ []) refl) _ (done-value (firstOf (squareOrder (c .args .0) (c .args .1 .0))) _) _)
+    rw (desk-square-is c) (report-told _ _ (square-listed (c .args .0)) (at-zero-positive (1 ∷ []) refl) _ (done-value (firstOf (squareOrder (c .args .0))) _) _)
 
-pub desk-trace-told : (c : Run calls.desk-trace) → DeskValueTold (traceOrder (c .args .0) (c .args .1 .0)) (AtZero (1 ∷ 4 ∷ 2 ∷ 3 ∷ [])) (Valued (traceAnswer (c .args .0) (c .args .1 .0))) (c .result)
+pub desk-trace-told : (c : Run calls.desk-trace) → DeskValueTold (traceOrder (c .args .0)) (AtZero (1 ∷ 2 ∷ 3 ∷ [])) (Valued (traceAnswer (c .args .0) (c .args .1 .0))) (c .result)
 unfolding traceAnswer traceReport
 desk-trace-told c =
-    rw (desk-trace-is c)
-    (report-told _ _ (trace-listed (c .args .0) (c .args .1 .0)) (at-zero-positive (1 ∷ 4 ∷ 2 ∷ 3 ∷ []) refl) _ (done-value (firstOf (traceOrder (c .args .0) (c .args .1 .0))) _) _)
+    rw (desk-trace-is c) (report-told _ _ (trace-listed (c .args .0)) (at-zero-positive (1 ∷ 2 ∷ 3 ∷ []) refl) _ (done-value (firstOf (traceOrder (c .args .0))) _) _)
 
 -- ---- build and read
 
@@ -113,11 +110,11 @@ desk-to-polynomial-told c =
     rw (desk-to-polynomial-is c)
     (report-told _ _ (value-listed (now (c .args .0)) (c .args .1 .0 ∷ [])) (value-positive (recordCount (now (c .args .0)))) _ (done-value (firstOf (polynomialOrder (now (c .args .0)) (c .args .1 .0))) _) _)
 
-pub desk-to-normal-told : (c : Run calls.desk-to-normal) → DeskValueTold (normalOrder (now (c .args .0)) (c .args .1 .0)) (OnValue (recordCount (now (c .args .0)))) (Valued (normalAnswer (now (c .args .0)) (c .args .1 .0))) (c .result)
+pub desk-to-normal-told : (c : Run calls.desk-to-normal) → DeskValueTold (normalOrder (now (c .args .0))) (OnShape (recordCount (now (c .args .0)))) (Valued (normalAnswer (now (c .args .0)) (c .args .1 .0))) (c .result)
 unfolding normalAnswer normalReport
 desk-to-normal-told c =
     rw (desk-to-normal-is c)
-    (report-told _ _ (value-listed (now (c .args .0)) (c .args .1 .0 ∷ [])) (value-positive (recordCount (now (c .args .0)))) _ (done-value (firstOf (normalOrder (now (c .args .0)) (c .args .1 .0))) _) _)
+    (report-told _ _ (shape-listed (now (c .args .0))) (shape-positive (recordCount (now (c .args .0)))) _ (done-value (firstOf (normalOrder (now (c .args .0)))) _) _)
 
 pub desk-times-told : (c : Run calls.desk-times) → DeskValueTold (timesOrder (now (c .args .0)) (c .args .1 .0) (c .args .1 .1 .0)) (OnValue (recordCount (now (c .args .0)))) (Valued (timesAnswer (now (c .args .0)) (c .args .1 .0) (c .args .1 .1 .0))) (c .result)
 unfolding timesAnswer timesReport
@@ -145,11 +142,11 @@ desk-list-to-polynomial-told c =
     rw (desk-list-to-polynomial-is c .0)
     (report-told _ _ (list-listed (now (c .args .0)) (now (c .args .1 .0)) (length (now (c .args .1 .1 .0)))) (list-positive (recordCount (now (c .args .0))) (length (now (c .args .1 .0)))) _ (done-checked (firstOf (polynomialListOrder (now (c .args .0)) (now (c .args .1 .0)) (length (now (c .args .1 .1 .0)))))) 0)
 
-pub desk-list-to-normal-told : (c : Run calls.desk-list-to-normal) → DeskValueTold (normalListOrder (now (c .args .0)) (now (c .args .1 .0)) (length (now (c .args .1 .1 .0)))) (OnList (recordCount (now (c .args .0))) (length (now (c .args .1 .0)))) (normalListAnswer (now (c .args .0)) (now (c .args .1 .0)) (length (now (c .args .1 .1 .0))) ≡ checked.Done) (c .result)
+pub desk-list-to-normal-told : (c : Run calls.desk-list-to-normal) → DeskValueTold (normalListOrder (now (c .args .0)) (now (c .args .1 .0)) (length (now (c .args .1 .1 .0)))) (OnWords (recordCount (now (c .args .0)))) (normalListAnswer (now (c .args .0)) (now (c .args .1 .0)) (length (now (c .args .1 .1 .0))) ≡ checked.Done) (c .result)
 unfolding normalListAnswer normalListReport
 desk-list-to-normal-told c =
     rw (desk-list-to-normal-is c .0)
-    (report-told _ _ (list-listed (now (c .args .0)) (now (c .args .1 .0)) (length (now (c .args .1 .1 .0)))) (list-positive (recordCount (now (c .args .0))) (length (now (c .args .1 .0)))) _ (done-checked (firstOf (normalListOrder (now (c .args .0)) (now (c .args .1 .0)) (length (now (c .args .1 .1 .0)))))) 0)
+    (report-told _ _ (words-listed (now (c .args .0)) (length (now (c .args .1 .0))) (length (now (c .args .1 .1 .0)))) (words-positive (recordCount (now (c .args .0)))) _ (done-checked (firstOf (normalListOrder (now (c .args .0)) (now (c .args .1 .0)) (length (now (c .args .1 .1 .0)))))) 0)
 
 -- ---- the text of the matrices
 
