@@ -8,6 +8,10 @@
  * if no non-empty set of indices picks conjugates of it that sum to zero. Normal coordinates of an
  * element are the number below 2^n whose set bits i pick the conjugates that sum to it.
  *
+ * Elements may come unreduced: desk_multiply, desk_square, desk_trace, desk_to_normal and
+ * desk_list_to_normal take any 64-bit number for an element, and work on its remainder modulo f. A
+ * candidate for a basis, normal coordinates and the ends of a range must be below 2^n.
+ *
  * A sheet is n records of 32 bytes, in row order, with nothing before or after them. Its numbers
  * are little-endian:
  *
@@ -32,7 +36,7 @@
  *            f = 0
  *    2       some polynomial of degree 1 to n-1 divides f              0
  *    3       x squared n times in a row is not x again modulo f        0
- *    4       an element, a coordinate number or an end of a range is   the first such index
+ *    4       a candidate element, coordinate number or range end is    the first such index
  *            2^n or more                                               in a list, else 0
  *    5       the element is not normal                                 0
  *    6       the buffer to be written is shorter than 32n bytes for    0
@@ -84,19 +88,19 @@
 #include <stdint.h>
 
 /* The version of the product, which the archive, the command line and the Rust crate share. */
-#define SABRENTUGLIO_VERSION "3.0.0"
+#define SABRENTUGLIO_VERSION "4.0.0"
 
 /*
  * The bytes of stack that a call may take, rounded up from a measurement, bindings/c/stack.c: no
  * call takes more than the first, and no call but desk_search more than the second. Measured were
- * 67 KiB for desk_search, 14 for the two that convert a list and for desk_times, desk_inverse and
- * desk_quotient, 12 for desk_why, 11 for desk_write_matrices, 9 for desk_read, 8 for desk_build and
- * desk_read_matrices and less than 1 for each of the others. The amount does not grow with a range,
- * a list or a text. It includes memcpy and memset of the C library, and not the dynamic linker,
- * which may look them up at the first call.
+ * 67 KiB for desk_search, 18 for desk_list_to_normal, 14 for desk_list_to_polynomial, desk_times,
+ * desk_inverse and desk_quotient, 12 for desk_why, 11 for desk_write_matrices, 9 for desk_read, 8
+ * for desk_build and desk_read_matrices and less than 1 for each of the others. The amount does not
+ * grow with a range, a list or a text. It includes memcpy and memset of the C library, and not the
+ * dynamic linker, which may look them up at the first call.
  */
 #define SABRENTUGLIO_STACK 73728
-#define SABRENTUGLIO_STACK_BUT_SEARCH 16384
+#define SABRENTUGLIO_STACK_BUT_SEARCH 20480
 
 #ifdef __cplusplus
 extern "C" {
@@ -189,20 +193,23 @@ typedef struct desk_word {
 desk_value desk_check(uint64_t f);
 
 /*
- * Returns a times b modulo f, for any f of degree 2 to 46, accepted or not.
- * Refusals in order: 1, 4.
+ * Returns a times b modulo f, for any f of degree 2 to 46, accepted or not. a and b are any
+ * numbers; each stands for its remainder modulo f.
+ * Refusals in order: 1.
  */
 desk_value desk_multiply(uint64_t f, uint64_t a, uint64_t b);
 
 /*
- * Returns a times a modulo f, for any f of degree 2 to 46, accepted or not.
- * Refusals in order: 1, 4.
+ * Returns a times a modulo f, for any f of degree 2 to 46, accepted or not. a is any number; it
+ * stands for its remainder modulo f.
+ * Refusals in order: 1.
  */
 desk_value desk_square(uint64_t f, uint64_t a);
 
 /*
- * Returns the trace of a: the sum of its n conjugates, 0 or 1.
- * Refusals in order: 1, 4, 2, 3.
+ * Returns the trace of a: the sum of its n conjugates, 0 or 1. a is any number; it stands for its
+ * remainder modulo f.
+ * Refusals in order: 1, 2, 3.
  */
 desk_value desk_trace(uint64_t f, uint64_t a);
 
@@ -242,8 +249,11 @@ desk_value desk_to_polynomial(const uint8_t *sheet, size_t length, uint64_t coor
 
 /*
  * Returns the normal coordinates of an element: the sum of the sheet's inverse rows that its bits
- * pick. The call uses the rows as they stand and does not rebuild them. Writes nothing.
- * Refusals in order: the shape, 4.
+ * pick. The element is any number; it stands for its remainder modulo the sheet's polynomial, which
+ * is 2^n plus bytes 2-7 of record 0, accepted or not. The call uses the rows as they stand and does
+ * not rebuild them. On the sheets that desk_read accepts, desk_to_polynomial returns the remainder.
+ * Writes nothing.
+ * Refusals in order: the shape.
  */
 desk_value desk_to_normal(const uint8_t *sheet, size_t length, uint64_t element);
 
@@ -259,8 +269,9 @@ desk_value desk_list_to_polynomial(const uint8_t *sheet, size_t length, const ui
 
 /*
  * Converts every value of a list as desk_to_normal does: into[i] becomes the normal coordinates of
- * from[i]. Lengths, value, refusals and their places are as in desk_list_to_polynomial.
- * Refusals in order: the shape, 11, 4.
+ * from[i], which is any number. Lengths and value are as in desk_list_to_polynomial. On a refusal
+ * `into` is unchanged.
+ * Refusals in order: the shape, 11.
  */
 desk_value desk_list_to_normal(const uint8_t *sheet, size_t length, const uint64_t *from, size_t from_count,
                                uint64_t *into, size_t into_count);

@@ -2,7 +2,7 @@
  * Measures how much stack each call takes, and compares it with what the header says.
  *
  * Each call runs on a stack of its own that is painted before. The bytes that have changed then, from the deepest one up, were the
- * call's; the small function that makes the call is counted with it. Every call is done and refused, at every degree: which input
+ * call's; the small function that makes the call is counted with it. Every call is done at every degree, and refused: which input
  * takes a path that is deeper than another's is not known from outside.
  *
  * It prints a line for each call. Exit status 1: a call took more than the header says, or was not both done and refused.
@@ -104,22 +104,20 @@ static void measure(int call) {
     size_t one = used(call, 0xa5), other = used(call, 0x5a);
     size_t most = one > other ? one : other;
     if (calls[call].most < most) calls[call].most = most;
-    if (number == 0) {
-        calls[call].done++;
-    } else {
-        calls[call].refused++;
-    }
+    if (number == 0) calls[call].done++;
+    else calls[call].refused++;
 }
 
+/* Operands in pairs: elements, and words that are none and come unreduced. */
 static void measure_numbers(int degree) {
-    uint64_t size = (uint64_t)1 << degree;
-    a = size - 1;
-    b = size - 2;
-    for (int call = CHECK; call <= TRACE; call++) measure(call);
-    measure(READ_MATRICES);
-    a = size;
-    for (int call = MULTIPLY; call <= TRACE; call++) measure(call);
-    measure(READ_MATRICES);
+    uint64_t size = (uint64_t)1 << degree, words[] = {size - 2, size - 1, size, f, UINT64_MAX, UINT64_MAX};
+    measure(CHECK);
+    for (size_t i = 0; i < sizeof words / sizeof *words - 1; i++) {
+        a = words[i + 1];
+        b = words[i];
+        for (int call = MULTIPLY; call <= TRACE; call++) measure(call);
+        measure(READ_MATRICES);
+    }
     a = 0;
     b = size - 1 < 400 ? size - 1 : 400;
     measure(SEARCH);
@@ -161,7 +159,10 @@ static void measure_heads(int degree) {
     measure_bad_sheet();
 }
 
-/* The calls on the sheet of f and a normal element; the list has the most values. */
+/* Both ways of a list of so many values. */
+static void measure_lists(size_t values) { count = values; measure(LIST_TO_POLYNOMIAL); measure(LIST_TO_NORMAL); }
+
+/* The calls on the sheet of f and a normal element; lists have the most values, and few. */
 static void measure_sheet(int degree, uint64_t element) {
     uint64_t size = (uint64_t)1 << degree;
     a = element;
@@ -173,15 +174,19 @@ static void measure_sheet(int degree, uint64_t element) {
     measure_text(degree);
     b = size - 1;
     for (int call = TO_POLYNOMIAL; call <= QUOTIENT; call++) measure(call);
-    count = LIST;
     for (size_t i = 0; i < LIST; i++) from[i] = i % size;
-    for (int call = LIST_TO_POLYNOMIAL; call <= LIST_TO_NORMAL; call++) measure(call);
-    from[LIST - 1] = size;
-    for (int call = LIST_TO_POLYNOMIAL; call <= LIST_TO_NORMAL; call++) measure(call);
-    count = LIST + 1;
-    for (int call = LIST_TO_POLYNOMIAL; call <= LIST_TO_NORMAL; call++) measure(call);
-    a = size;
+    measure_lists(LIST);
+    measure_lists(7);
+    from[LIST - 1] = f;
+    measure_lists(LIST);
+    for (size_t i = 0; i < LIST; i++) from[i] = UINT64_MAX - i;
+    measure_lists(LIST);
+    measure_lists(7);
+    measure_lists(LIST + 1);
+    a = f;
     for (int call = TO_POLYNOMIAL; call <= QUOTIENT; call++) measure(call);
+    a = UINT64_MAX;
+    measure(TO_NORMAL);
     a = b = 0;
     for (int call = INVERSE; call <= QUOTIENT; call++) measure(call);
     sheet[length - 8] ^= 1;
@@ -287,6 +292,8 @@ int main(void) {
         next_accepted();
         measure_field(degree);
     }
+    f = (uint64_t)2 << LIMIT;
+    measure_numbers(LIMIT);
     measure_words();
     return report() == 0 ? 0 : 1;
 }

@@ -24,36 +24,47 @@ pub fn check(f: u64) -> Result<(), Refusal> {
     Result::from(raw::check(f)).map(|_| ())
 }
 
-/// a times b modulo f, for any f of degree 2 to 46, accepted or not.
+/// a times b modulo f, for any f of degree 2 to 46, accepted or not. Operands
+/// may come unreduced: each stands for its remainder modulo f.
 ///
-/// Refuses 1, 4.
+/// Refuses 1.
 ///
 /// ```
-/// assert_eq!(sabrentuglio::multiply(19, 8, 12)?, 10);
+/// use sabrentuglio::multiply;
+///
+/// assert_eq!(multiply(19, 8, 12)?, 10);
+/// // Modulo 19 the words 27, which is 19 + 8, and 2^63 are both 8.
+/// assert_eq!(multiply(19, 27, 12)?, 10);
+/// assert_eq!(multiply(19, 1 << 63, 12)?, 10);
+/// assert_eq!(multiply(19, 27, u64::MAX)?, multiply(19, 8, 15)?);
 /// # Ok::<(), sabrentuglio::Refusal>(())
 /// ```
 pub fn multiply(f: u64, a: u64, b: u64) -> Result<u64, Refusal> {
     raw::multiply(f, a, b).into()
 }
 
-/// a times a modulo f, for any f of degree 2 to 46, accepted or not.
+/// a times a modulo f, for any f of degree 2 to 46, accepted or not. The operand
+/// may come unreduced: it stands for its remainder modulo f.
 ///
-/// Refuses 1, 4.
+/// Refuses 1.
 ///
 /// ```
 /// assert_eq!(sabrentuglio::square(19, 8)?, 12);
+/// assert_eq!(sabrentuglio::square(19, 27)?, 12);
 /// # Ok::<(), sabrentuglio::Refusal>(())
 /// ```
 pub fn square(f: u64, a: u64) -> Result<u64, Refusal> {
     raw::square(f, a).into()
 }
 
-/// The trace, the sum of the n conjugates of a: 0 or 1.
+/// The trace, the sum of the n conjugates of a: 0 or 1. The operand may come
+/// unreduced: it stands for its remainder modulo f.
 ///
-/// Refuses 1, 4, 2, 3.
+/// Refuses 1, 2, 3.
 ///
 /// ```
 /// assert_eq!(sabrentuglio::trace(19, 8)?, 1);
+/// assert_eq!(sabrentuglio::trace(19, 27)?, 1);
 /// # Ok::<(), sabrentuglio::Refusal>(())
 /// ```
 pub fn trace(f: u64, a: u64) -> Result<u64, Refusal> {
@@ -117,14 +128,20 @@ pub fn to_polynomial(sheet: &[u8], coordinates: u64) -> Result<u64, Refusal> {
 }
 
 /// The normal coordinates of an element, by the inverse rows as they stand in
-/// the sheet.
+/// the sheet. The element may come unreduced: it stands for its remainder modulo
+/// the polynomial that stands in the sheet, accepted or not.
 ///
-/// Refuses 7, then 8 and 9 record by record, 4.
+/// Refuses 7, then 8 and 9 record by record.
 ///
 /// ```
-/// let mut sheet = [0; 3 * sabrentuglio::RECORD_LENGTH];
-/// sabrentuglio::build(11, 3, &mut sheet)?;
-/// assert_eq!(sabrentuglio::to_normal(&sheet, 6)?, 3);
+/// use sabrentuglio::{build, to_normal, to_polynomial, RECORD_LENGTH};
+///
+/// let mut sheet = [0; 3 * RECORD_LENGTH];
+/// build(11, 3, &mut sheet)?;
+/// assert_eq!(to_normal(&sheet, 6)?, 3);
+/// // The word 13 is 6 modulo 11, and comes back as 6.
+/// assert_eq!(to_normal(&sheet, 13)?, 3);
+/// assert_eq!(to_polynomial(&sheet, 3)?, 6);
 /// # Ok::<(), sabrentuglio::Refusal>(())
 /// ```
 pub fn to_normal(sheet: &[u8], element: u64) -> Result<u64, Refusal> {
@@ -138,10 +155,16 @@ pub fn to_normal(sheet: &[u8], element: u64) -> Result<u64, Refusal> {
 /// of the first value that is too large.
 ///
 /// ```
-/// let mut sheet = [0; 3 * sabrentuglio::RECORD_LENGTH];
-/// sabrentuglio::build(11, 3, &mut sheet)?;
+/// use sabrentuglio::{build, list_to_polynomial, Reason, RECORD_LENGTH};
+///
+/// let mut sheet = [0; 3 * RECORD_LENGTH];
+/// build(11, 3, &mut sheet)?;
 /// let mut into = [0; 2];
-/// sabrentuglio::list_to_polynomial(&sheet, &[3, 5], &mut into)?;
+/// list_to_polynomial(&sheet, &[3, 5], &mut into)?;
+/// assert_eq!(into, [6, 4]);
+///
+/// let refusal = list_to_polynomial(&sheet, &[3, 8], &mut into).unwrap_err();
+/// assert_eq!((refusal.reason(), refusal.place), (Some(Reason::TooLarge), 1));
 /// assert_eq!(into, [6, 4]);
 /// # Ok::<(), sabrentuglio::Refusal>(())
 /// ```
@@ -150,22 +173,22 @@ pub fn list_to_polynomial(sheet: &[u8], from: &[u64], into: &mut [u64]) -> Resul
 }
 
 /// [`to_normal`] for each value of `from`, written to the same index of `into`,
-/// which has the same length, at most 4,096.
+/// which has the same length, at most 4,096. The values may come unreduced.
 ///
-/// Refuses as [`list_to_polynomial`] does.
+/// Refuses 7, then 8 and 9 record by record, 11.
 ///
 /// ```
 /// use sabrentuglio::{build, list_to_normal, Reason, RECORD_LENGTH};
 ///
 /// let mut sheet = [0; 3 * RECORD_LENGTH];
 /// build(11, 3, &mut sheet)?;
-/// let mut into = [0; 2];
-/// list_to_normal(&sheet, &[6, 4], &mut into)?;
-/// assert_eq!(into, [3, 5]);
+/// let mut into = [0; 3];
+/// list_to_normal(&sheet, &[6, 4, 13], &mut into)?;
+/// assert_eq!(into, [3, 5, 3]);
 ///
-/// let refusal = list_to_normal(&sheet, &[6, 8], &mut into).unwrap_err();
-/// assert_eq!((refusal.reason(), refusal.place), (Some(Reason::TooLarge), 1));
-/// assert_eq!(into, [3, 5]);
+/// let refusal = list_to_normal(&sheet, &[6, 4], &mut into).unwrap_err();
+/// assert_eq!(refusal.reason(), Some(Reason::ListLength));
+/// assert_eq!(into, [3, 5, 3]);
 /// # Ok::<(), sabrentuglio::Refusal>(())
 /// ```
 pub fn list_to_normal(sheet: &[u8], from: &[u64], into: &mut [u64]) -> Result<(), Refusal> {

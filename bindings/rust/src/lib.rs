@@ -17,8 +17,11 @@
 //! [`search`]. [`raw`] has the same with the answers as flat numbers.
 //! [`Polynomial`] parses what a designer types, as the command line does.
 //!
-//! Every number is a legal argument. What the desk does not do it refuses, with
-//! a [`Refusal`], and then every buffer, list and text stays as it came.
+//! Every number is a legal argument. Elements may come unreduced, as 64-bit
+//! words of a line capture do: [`multiply`], [`square`], [`trace`],
+//! [`to_normal`] and [`list_to_normal`] work on the remainder modulo f. What the
+//! desk does not do it refuses, with a [`Refusal`], and then every buffer, list
+//! and text stays as it came.
 //!
 //! Refusals and grades carry the documents' numbers. [`Reason`] and [`Grade`]
 //! have the names of those that this version knows. [`Cause`] says why a sheet is
@@ -32,6 +35,9 @@
 //! let product = sheet.to_polynomial(sheet.times(a, b)?)?;
 //! assert_eq!(product, multiply(11, 6, 4)?);
 //! assert_eq!(sheet.quotient(sheet.times(a, b)?, b)?, a);
+//!
+//! // All 64 bits set are 1 modulo x^3 + x + 1.
+//! assert_eq!(sheet.to_polynomial(sheet.to_normal(u64::MAX)?)?, 1);
 //!
 //! let refusal = Sheet::build(11, 2).unwrap_err();
 //! assert_eq!(refusal.reason(), Some(Reason::NotNormal));

@@ -15,8 +15,18 @@ impl Sheet {
     /// first value that is too large.
     ///
     /// ```
-    /// let sheet = sabrentuglio::Sheet::build(11, 3)?;
+    /// use sabrentuglio::{Reason, Sheet};
+    ///
+    /// let sheet = Sheet::build(11, 3)?;
     /// assert_eq!(sheet.list_to_polynomial(&[3, 5])?, [6, 4]);
+    /// assert_eq!(sheet.list_to_polynomial(&[])?, []);
+    ///
+    /// let mut coordinates = vec![3; 1_000_000];
+    /// assert_eq!(sheet.list_to_polynomial(&coordinates)?, vec![6; 1_000_000]);
+    ///
+    /// coordinates[700_000] = 8;
+    /// let refusal = sheet.list_to_polynomial(&coordinates).unwrap_err();
+    /// assert_eq!((refusal.reason(), refusal.place), (Some(Reason::TooLarge), 700_000));
     /// # Ok::<(), sabrentuglio::Refusal>(())
     /// ```
     pub fn list_to_polynomial(&self, from: &[u64]) -> Result<Vec<u64>, Refusal> {
@@ -25,22 +35,14 @@ impl Sheet {
 
     /// The normal coordinates of a list of elements.
     ///
-    /// The list may have any length. Refuses 4; the place is the index of the
-    /// first value that is too large.
+    /// The list may have any length, and its values may come unreduced: each
+    /// stands for its remainder modulo f. Refuses nothing.
     ///
     /// ```
-    /// use sabrentuglio::{Reason, Sheet};
-    ///
-    /// let sheet = Sheet::build(11, 3)?;
+    /// let sheet = sabrentuglio::Sheet::build(11, 3)?;
     /// assert_eq!(sheet.list_to_normal(&[6, 4])?, [3, 5]);
-    /// assert_eq!(sheet.list_to_normal(&[])?, []);
-    ///
-    /// let mut elements = vec![6; 1_000_000];
-    /// assert_eq!(sheet.list_to_normal(&elements)?, vec![3; 1_000_000]);
-    ///
-    /// elements[700_000] = 8;
-    /// let refusal = sheet.list_to_normal(&elements).unwrap_err();
-    /// assert_eq!((refusal.reason(), refusal.place), (Some(Reason::TooLarge), 700_000));
+    /// // Modulo 11 the word 13 is 6, and 11 is 0.
+    /// assert_eq!(sheet.list_to_normal(&[13, 11])?, [3, 0]);
     /// # Ok::<(), sabrentuglio::Refusal>(())
     /// ```
     pub fn list_to_normal(&self, from: &[u64]) -> Result<Vec<u64>, Refusal> {
@@ -94,8 +96,19 @@ mod tests {
             from[place] = 16;
             from[2 * MAX_LIST + 1] = u64::MAX;
             let refused = Err(Refusal { number: 4, place });
-            assert_eq!(sheet.list_to_normal(&from), refused);
             assert_eq!(sheet.list_to_polynomial(&from), refused);
+        }
+    }
+
+    #[test]
+    fn an_unreduced_value_comes_back_as_its_remainder() {
+        let sheet = Sheet::build(19, 8).unwrap();
+        let mut from = vec![1; 2 * MAX_LIST + 2];
+        let mut back = from.clone();
+        for place in [0, MAX_LIST - 1, MAX_LIST, MAX_LIST + 1, 2 * MAX_LIST] {
+            (from[place], back[place]) = (u64::MAX, 15);
+            let there = sheet.list_to_normal(&from).unwrap();
+            assert_eq!(sheet.list_to_polynomial(&there).as_ref(), Ok(&back));
         }
     }
 }

@@ -8,8 +8,10 @@
 //! ```
 //! use sabrentuglio::raw;
 //!
-//! let answer = raw::multiply(19, 8, 16);
-//! assert_eq!((answer.number, answer.place, answer.value), (4, 0, 0));
+//! let answer = raw::multiply(19, 8, 12);
+//! assert_eq!((answer.number, answer.place, answer.value), (0, 0, 10));
+//! let answer = raw::multiply(3, 8, 12);
+//! assert_eq!((answer.number, answer.place, answer.value), (1, 0, 0));
 //! ```
 
 #![allow(unsafe_code)]
@@ -139,19 +141,19 @@ pub fn check(f: u64) -> Value {
     unsafe { desk_check(f) }
 }
 
-/// `desk_multiply`: a times b modulo f.
+/// `desk_multiply`: a times b modulo f, each operand any number.
 pub fn multiply(f: u64, a: u64, b: u64) -> Value {
     // SAFETY: only numbers go over, and every number is a legal argument.
     unsafe { desk_multiply(f, a, b) }
 }
 
-/// `desk_square`: a times a modulo f.
+/// `desk_square`: a times a modulo f, a any number.
 pub fn square(f: u64, a: u64) -> Value {
     // SAFETY: only numbers go over, and every number is a legal argument.
     unsafe { desk_square(f, a) }
 }
 
-/// `desk_trace`: the sum of the conjugates of a.
+/// `desk_trace`: the sum of the conjugates of a, any number.
 pub fn trace(f: u64, a: u64) -> Value {
     // SAFETY: only numbers go over, and every number is a legal argument.
     unsafe { desk_trace(f, a) }
@@ -183,7 +185,7 @@ pub fn to_polynomial(sheet: &[u8], coordinates: u64) -> Value {
     unsafe { desk_to_polynomial(sheet.as_ptr(), sheet.len(), coordinates) }
 }
 
-/// `desk_to_normal`: the normal coordinates of an element.
+/// `desk_to_normal`: the normal coordinates of an element, any number.
 pub fn to_normal(sheet: &[u8], element: u64) -> Value {
     // SAFETY: as in `read`.
     unsafe { desk_to_normal(sheet.as_ptr(), sheet.len(), element) }

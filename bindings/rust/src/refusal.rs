@@ -29,7 +29,7 @@ pub enum Reason {
     /// those that would have a divisor; it stands here because it stands in
     /// the table.
     Squaring = 3,
-    /// 4: an element, coordinate number or range end is 2^n or more.
+    /// 4: a candidate element, coordinate number or range end is 2^n or more.
     TooLarge = 4,
     /// 5: the element is not normal.
     NotNormal = 5,
@@ -86,7 +86,9 @@ impl Reason {
             Reason::Degree => "the degree of f is below 2 or above 46",
             Reason::Divisor => "some polynomial of degree 1 to n-1 divides f",
             Reason::Squaring => "repeated squaring n times does not return x",
-            Reason::TooLarge => "an element, coordinate number or range end is 2^n or more",
+            Reason::TooLarge => {
+                "a candidate element, coordinate number or range end is 2^n or more"
+            }
             Reason::NotNormal => "the element is not normal",
             Reason::BufferLength => {
                 "the buffer to be written is shorter than 32n bytes for a sheet, \

@@ -9,8 +9,9 @@ use std::fmt;
 /// The sheet of one normal basis.
 ///
 /// It holds only bytes that [`build`](crate::build) writes, so converting and
-/// converting back returns the value, multiplying through the sheet is
-/// multiplication modulo f, and a quotient times its divisor is the dividend.
+/// converting back returns the value, or the remainder of an element that came
+/// unreduced, multiplying through the sheet is multiplication modulo f, and a
+/// quotient times its divisor is the dividend.
 ///
 /// ```
 /// use sabrentuglio::Sheet;
@@ -143,12 +144,16 @@ impl Sheet {
         calls::to_polynomial(&self.bytes, coordinates)
     }
 
-    /// The normal coordinates of an element.
+    /// The normal coordinates of an element, which may come unreduced: it stands
+    /// for its remainder modulo f.
     ///
-    /// Refuses 4.
+    /// Refuses nothing.
     ///
     /// ```
-    /// assert_eq!(sabrentuglio::Sheet::build(19, 8)?.to_normal(2)?, 9);
+    /// let sheet = sabrentuglio::Sheet::build(19, 8)?;
+    /// assert_eq!(sheet.to_normal(2)?, 9);
+    /// // All 64 bits: modulo 19 this is 15.
+    /// assert_eq!(sheet.to_polynomial(sheet.to_normal(u64::MAX)?)?, 15);
     /// # Ok::<(), sabrentuglio::Refusal>(())
     /// ```
     pub fn to_normal(&self, element: u64) -> Result<u64, Refusal> {

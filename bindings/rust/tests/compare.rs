@@ -6,12 +6,15 @@
 //! met. The seed is printed; DESK_SEED sets it, so that a run can be repeated.
 //!
 //! In `compare/`: `random` draws numbers, `fields` finds polynomials and
-//! sheets, `factors` makes polynomials of known factors, `damage` spoils sheets
-//! and `texts` texts, `lent` watches lent memory, `flat` has answers in one form,
-//! `pair` asks both sides, `tally` counts; the others are the groups.
+//! sheets, `factors` makes polynomials of known factors and `captures` words of
+//! known remainders, `damage` spoils sheets and `texts` texts, `lent` watches
+//! lent memory, `flat` has answers in one form, `pair` asks both sides, `tally`
+//! counts; the others are the groups.
 
 #[path = "compare/building.rs"]
 mod building;
+#[path = "compare/captures.rs"]
+mod captures;
 #[path = "compare/causes.rs"]
 mod causes;
 #[path = "compare/damage.rs"]
@@ -48,6 +51,8 @@ mod searching;
 mod tally;
 #[path = "compare/texts.rs"]
 mod texts;
+#[path = "compare/unreduced.rs"]
+mod unreduced;
 #[path = "compare/why.rs"]
 mod why;
 
@@ -61,7 +66,7 @@ use std::time::Instant;
 /// The name of a group and what runs it.
 type Group = (&'static str, fn(&mut Pair, &mut Random, &Fields));
 
-const GROUPS: [Group; 11] = [
+const GROUPS: [Group; 12] = [
     ("polynomials", polynomials::run),
     ("building", building::run),
     ("reading", reading::run),
@@ -73,6 +78,7 @@ const GROUPS: [Group; 11] = [
     ("dividing", dividing::run),
     ("matrices", matrices::run),
     ("why", why::run),
+    ("unreduced", unreduced::run),
 ];
 
 /// The seed of a run that names none: the same run each time.

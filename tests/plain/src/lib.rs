@@ -1,6 +1,7 @@
-//! Document 01, and document 02's division, grades, full set of matrices and
-//! causes of refusals, in plain Rust, written from their sentences alone, so that
-//! the desk's archive can be compared with something that shares no line with it.
+//! Document 01, and document 02's division, grades, full set of matrices, causes
+//! of refusals and unreduced elements, in plain Rust, written from their
+//! sentences alone, so that the desk's archive can be compared with something
+//! that shares no line with it.
 //!
 //! In order: [`answers`] has what the calls answer; [`polynomial`] the
 //! arithmetic; [`accepted`] the tests of f; [`divisors`] the smallest divisor of

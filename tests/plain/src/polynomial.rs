@@ -123,6 +123,30 @@ mod tests {
         assert_eq!(quotient(u64::MAX, 1), u64::MAX);
     }
 
+    /// The same said otherwise: the sum of what is left of each power of x,
+    /// from 1 upward, each x times the one before it.
+    fn sum_of_powers(a: u64, b: u64) -> u64 {
+        let times_x = |power: u64| remainder(power << 1, b);
+        let powers = std::iter::successors(Some(remainder(1, b)), |power| Some(times_x(*power)));
+        let picked = powers.take(64).enumerate();
+        picked.fold(0, |sum, (i, power)| sum ^ (power * (a >> i & 1)))
+    }
+
+    #[test]
+    fn remainders_of_the_largest_numbers() {
+        let numbers = [u64::MAX, 1 << 63, u64::MAX >> 1, 0x9e37_79b9_7f4a_7c15];
+        for n in 2..=46 {
+            for b in [1 << n, (1 << n) + 1, (1 << n) + 3, (2 << n) - 1] {
+                for a in numbers {
+                    assert_eq!(remainder(a, b), sum_of_powers(a, b), "{} over {}", a, b);
+                }
+                assert_eq!(remainder(b, b), 0);
+                assert_eq!(remainder(b << (63 - n), b), 0);
+                assert_eq!(remainder(b << (63 - n) ^ b ^ 3, b), 3);
+            }
+        }
+    }
+
     #[test]
     fn square_root_of_a_square() {
         for a in [0, 1, 2, 19, 0xffff_ffff, 0x9e37_79b9] {

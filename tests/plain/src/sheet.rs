@@ -2,12 +2,15 @@
 //! [`to_polynomial`], [`to_normal`], [`times`] (document 01, "Sheet file").
 //!
 //! [`Rows`] is what a sheet says once 7, 8 and 9 are past. Converting and
-//! multiplying use it as it stands; only reading rebuilds.
+//! multiplying use it as it stands; only reading rebuilds. Converting from
+//! polynomials takes any 64-bit number and answers for its remainder modulo the
+//! sheet's f (document 02, §6), whatever that f is.
 
 use crate::accepted::{field_degree, refuse_unaccepted};
 use crate::answers::{refuse_if, Issued, Refusal, Value};
 use crate::basis::{complexity, grade, product_of_coordinates, sum_of_picked, Basis};
 use crate::field::refuse_large;
+use crate::polynomial::remainder;
 use crate::{MAX_DEGREE, RECORD_LENGTH};
 
 /// A sheet that passed the conditions 7, 8 and 9.
@@ -61,6 +64,11 @@ impl Rows {
             f: (1 << n) + number(tail),
             basis,
         })
+    }
+
+    /// The sum of the inverse rows that the bits of the remainder pick.
+    pub(crate) fn coordinates_of(&self, word: u64) -> u64 {
+        sum_of_picked(&self.basis.inverses, remainder(word, self.f))
     }
 }
 
@@ -145,21 +153,21 @@ pub(crate) fn opened(sheet: &[u8], operands: &[u64]) -> Result<Rows, Refusal> {
     Ok(rows)
 }
 
-/// The sum of the conjugate rows that the coordinates pick.
+/// The sum of the conjugate rows that the coordinates pick: 7, 8 and 9, then 4.
 pub fn to_polynomial(sheet: &[u8], coordinates: u64) -> Value {
     opened(sheet, &[coordinates])
         .map(|rows| sum_of_picked(&rows.basis.conjugates, coordinates))
         .into()
 }
 
-/// The sum of the inverse rows that the element's bits pick.
+/// The normal coordinates of an element, which may come unreduced: 7, 8 and 9.
 pub fn to_normal(sheet: &[u8], element: u64) -> Value {
-    opened(sheet, &[element])
-        .map(|rows| sum_of_picked(&rows.basis.inverses, element))
+    Rows::new(sheet)
+        .map(|rows| rows.coordinates_of(element))
         .into()
 }
 
-/// The product of normal coordinates by the table rows.
+/// The product of normal coordinates by the table rows: 7, 8 and 9, then 4.
 pub fn times(sheet: &[u8], a: u64, b: u64) -> Value {
     opened(sheet, &[a, b])
         .map(|rows| product_of_coordinates(&rows.basis.table, a, b))
@@ -261,7 +269,8 @@ pub(crate) mod tests {
         assert_eq!(times(&sheet, 1, 2).value, 5);
         assert_eq!(to_polynomial(&sheet, 5).value, 4);
         assert_eq!(times(&sheet, 1, 8).number, 4);
-        assert_eq!(to_normal(&sheet, 8).number, 4);
+        assert_eq!(to_normal(&sheet, 11 ^ 6), to_normal(&sheet, 6));
+        assert_eq!(to_polynomial(&sheet, 8).number, 4);
         assert_eq!(to_polynomial(&sheet[1..], 8).number, 7);
     }
 

@@ -1,4 +1,7 @@
 //! Converting lists both ways: short, long, empty, bad, of differing lengths.
+//!
+//! A value of 2^n or more is refused on the way to polynomials, and reduced on
+//! the way from there.
 
 use crate::damage::{damaged, invented};
 use crate::fields::{Field, Fields, WIDEST};
@@ -11,7 +14,7 @@ pub fn run(pair: &mut Pair, random: &mut Random, fields: &Fields) {
     for field in fields.all() {
         let sheet = &field.any(random).sheet;
         good(pair, random, field.n, sheet);
-        bad_values(pair, random, field.n, sheet);
+        large_values(pair, random, field.n, sheet);
         differing_lengths(pair, random, field.n, sheet);
         bad_sheets(pair, random, field);
     }
@@ -32,8 +35,8 @@ fn good(pair: &mut Pair, random: &mut Random, n: u32, sheet: &[u8]) {
     }
 }
 
-/// One value too large, at either end and in between, and several.
-fn bad_values(pair: &mut Pair, random: &mut Random, n: u32, sheet: &[u8]) {
+/// One value of 2^n or more, at either end and in between, and several.
+fn large_values(pair: &mut Pair, random: &mut Random, n: u32, sheet: &[u8]) {
     let length = 2 + random.index(40);
     let good = random.elements(n, length);
     let into = random.elements(WIDEST, length);
@@ -96,10 +99,10 @@ fn around_the_longest(pair: &mut Pair, random: &mut Random, n: u32, sheet: &[u8]
         pair.lists(sheet, &from[..count], &into[..room]);
     }
     for place in [0, below - 1, below, MAX_LIST] {
-        let mut bad = from.clone();
-        bad[place] = u64::MAX;
-        pair.lists(sheet, &bad[..MAX_LIST], &into[..MAX_LIST]);
-        pair.lists(sheet, &bad[..above], &into[..above]);
+        let mut large = from.clone();
+        large[place] = u64::MAX;
+        pair.lists(sheet, &large[..MAX_LIST], &into[..MAX_LIST]);
+        pair.lists(sheet, &large[..above], &into[..above]);
     }
     pair.lists(&sheet[1..], &from, &into[..1]);
 }

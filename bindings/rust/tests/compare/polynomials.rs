@@ -81,7 +81,7 @@ fn operands(pair: &mut Pair, random: &mut Random, field: &Field) {
         for _ in 0..6 {
             pair.trace(*f, random.operand(n));
         }
-        // Each operand alone too large, and both.
+        // Each operand alone unreduced, and both.
         let size = 1 << n;
         for (a, b) in [(size, size - 1), (size - 1, size), (size, size)] {
             ask(pair, *f, a, b);

@@ -47,7 +47,7 @@ impl Random {
     }
 
     /// An operand for degree n: mostly below 2^n, often at an edge, sometimes
-    /// too large.
+    /// 2^n or more, which some calls refuse and others reduce.
     pub fn operand(&mut self, n: u32) -> u64 {
         let size = 1 << n;
         match self.below(16) {

@@ -3,12 +3,13 @@
 //! The flat answers are held against `plain` as in the other groups; here the
 //! way from a flat answer to a result, a [`Refusal`] and a [`Sheet`] is tried.
 
+use crate::captures::KINDS;
 use crate::damage::damaged;
 use crate::fields::{Field, Fields};
 use crate::pair::Pair;
 use crate::random::Random;
 use sabrentuglio::{matrices_size, raw, Cause, Reason, Refusal, Sheet, Summary};
-use sabrentuglio::{MAX_DEGREE, RECORD_LENGTH};
+use sabrentuglio::{MAX_DEGREE, MAX_LIST, RECORD_LENGTH};
 use std::fmt::Debug;
 
 /// Runs the group.
@@ -232,8 +233,31 @@ fn owned(random: &mut Random, field: &Field) {
     let mut text = vec![0; matrices_size(field.n as usize)];
     plain::write_matrices(&basis.sheet, &mut text);
     assert_eq!(sheet.matrices().as_bytes(), text);
-    let refusal = sheet.list_to_normal(&[0, 1 << field.n]).unwrap_err();
+    let refusal = sheet.list_to_polynomial(&[0, 1 << field.n]).unwrap_err();
     assert_eq!((refusal.number, refusal.place), (4, 1));
+    unreduced(random, field.n, &sheet);
+}
+
+/// The way there and back from the polynomial side gives the remainder, which is
+/// the product with 1; a list of several calls, with words at its ends too.
+fn unreduced(random: &mut Random, n: u32, sheet: &Sheet) {
+    let f = sheet.polynomial();
+    let (mut words, mut rests) = (Vec::new(), Vec::new());
+    for (_, kind) in KINDS {
+        let (word, rest) = kind(f, n, random);
+        let rest = rest.unwrap_or_else(|| plain::polynomial::remainder(word, f));
+        assert_eq!(sabrentuglio::multiply(f, word, 1), Ok(rest));
+        let back = sheet.to_normal(word).and_then(|v| sheet.to_polynomial(v));
+        assert_eq!(back, Ok(rest), "f {}, word {}", f, word);
+        words.push(word);
+        rests.push(rest);
+    }
+    let length = MAX_LIST + random.index(MAX_LIST);
+    let elements = random.elements(n, length);
+    let from = [&words[..], &elements, &words].concat();
+    let there = sheet.list_to_normal(&from).expect("all have remainders");
+    let back = sheet.list_to_polynomial(&there);
+    assert_eq!(back, Ok([&rests[..], &elements, &rests].concat()));
 }
 
 /// On a built sheet the quotient times the divisor is the dividend, and the

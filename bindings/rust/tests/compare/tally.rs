@@ -1,7 +1,7 @@
 //! What was met: for each call how often it was done and how often each number
 //! refused it. [`Tally::close`] prints the table and says whether it is full.
 
-use crate::{factors, texts};
+use crate::{captures, factors, texts};
 use sabrentuglio::{Grade, Reason, RecordField};
 use std::collections::BTreeMap;
 
@@ -30,16 +30,16 @@ pub enum Call {
 /// The name of each call and the documents' order of its refusals.
 const ORDERS: [(&str, &[u64]); 17] = [
     ("check", &[1, 2, 3]),
-    ("multiply", &[1, 4]),
-    ("square", &[1, 4]),
-    ("trace", &[1, 4, 2, 3]),
+    ("multiply", &[1]),
+    ("square", &[1]),
+    ("trace", &[1, 2, 3]),
     ("build", &[1, 4, 6, 2, 3, 5]),
     ("read", &[7, 8, 9, 2, 3, 5, 10]),
     ("why", &[7, 8, 9, 2, 3, 5, 10]),
     ("to_polynomial", &[7, 8, 9, 4]),
-    ("to_normal", &[7, 8, 9, 4]),
+    ("to_normal", &[7, 8, 9]),
     ("list_to_polynomial", &[7, 8, 9, 11, 4]),
-    ("list_to_normal", &[7, 8, 9, 11, 4]),
+    ("list_to_normal", &[7, 8, 9, 11]),
     ("times", &[7, 8, 9, 4]),
     ("inverse", &[7, 8, 9, 4, 13]),
     ("quotient", &[7, 8, 9, 4, 13]),
@@ -52,7 +52,7 @@ const ORDERS: [(&str, &[u64]); 17] = [
 const NEVER: u64 = 3;
 
 /// How often each of the other numbers is to be met at least, in each call.
-const OFTEN: u64 = 50;
+pub const OFTEN: u64 = 50;
 
 /// How often each number was met.
 type Counts = BTreeMap<u64, u64>;
@@ -69,6 +69,11 @@ fn divided() -> impl Iterator<Item = &'static str> {
 /// The names of the kinds of wrong texts.
 fn wrong_texts() -> impl Iterator<Item = &'static str> {
     texts::KINDS.iter().map(|(kind, _)| *kind)
+}
+
+/// The names of the kinds of words that come unreduced.
+fn unreduced() -> impl Iterator<Item = &'static str> {
+    captures::KINDS.iter().map(|(kind, _)| *kind)
 }
 
 /// The numbers of the refusal table.
@@ -102,7 +107,8 @@ impl Tally {
         *self.fields.entry(field).or_default() += 1;
     }
 
-    /// Counts a wrong text, or a polynomial that something divides, of a kind.
+    /// Counts a wrong text, a polynomial that something divides, or a word that
+    /// comes unreduced, of a kind.
     pub fn count_kind(&mut self, kind: &'static str) {
         *self.kinds.entry(kind).or_default() += 1;
     }
@@ -118,11 +124,17 @@ impl Tally {
     }
 
     /// How often a number was met, over all calls; 0 is done.
-    fn met(&self, number: u64) -> u64 {
+    pub fn met(&self, number: u64) -> u64 {
         self.counts.iter().map(|row| met(row, number)).sum()
     }
 
-    /// How often a kind of text or polynomial was refused as such.
+    /// How often a call met a number.
+    pub fn of(&self, call: Call, number: u64) -> u64 {
+        met(&self.counts[call as usize], number)
+    }
+
+    /// How often a kind of text or polynomial was refused as such, or a kind of
+    /// word handed over.
     fn met_kind(&self, kind: &str) -> u64 {
         self.kinds.get(kind).copied().unwrap_or(0)
     }
@@ -143,7 +155,7 @@ impl Tally {
             let met = met(&self.fields, field.number());
             assert!(met >= OFTEN, "{:?} met {} times", field, met);
         }
-        for kind in wrong_texts().chain(divided()) {
+        for kind in wrong_texts().chain(divided()).chain(unreduced()) {
             let met = self.met_kind(kind);
             assert!(met >= OFTEN, "{} met {} times", kind, met);
         }
@@ -189,12 +201,19 @@ impl Tally {
             let count = met(&self.fields, field.number());
             println!("refusal 10, {}: met {} times", field, count);
         }
+        self.print_kinds();
+        println!("searches that found nothing: {}", self.nothing);
+    }
+
+    fn print_kinds(&self) {
         for kind in divided() {
             println!("divided, {}: {}", kind, self.met_kind(kind));
         }
         for kind in wrong_texts() {
             println!("wrong texts, {}: {}", kind, self.met_kind(kind));
         }
-        println!("searches that found nothing: {}", self.nothing);
+        for kind in unreduced() {
+            println!("unreduced, {}: {}", kind, self.met_kind(kind));
+        }
     }
 }
