@@ -1,6 +1,7 @@
-// What the calls answer, written for a reader. The degree is that of f or of the sheet, for the line on a value that is too large.
+// What the calls answer, written for a reader. A degree is that of f or of the sheet, for the line on a value that is too large.
 use super::options::WORDS_ROOM;
 use super::output::Output;
+use super::refusing::refuse;
 use super::refusing::refuse_words;
 use super::telling::refuse_for;
 use normal::grade_number;
@@ -20,7 +21,20 @@ pub(crate) fn answer_check(output: Output, f: u64) -> Ending {
     }
 }
 
-pub(crate) fn answer_value(
+fn put_answer(output: Output, value: u64) -> bool {
+    output.put_value(b"", value) && output.put(b"\n")
+}
+
+// The value of a call that takes any operands, so that none is too large.
+pub(crate) fn answer_value(output: Output, answer: Value) -> Ending {
+    match answer {
+        Value::Refused(refusal) => refuse(refusal),
+        Value::Done(value) => done_if(put_answer(output, value)),
+    }
+}
+
+// The value of a call on normal coordinates.
+pub(crate) fn answer_coordinates(
     output: Output,
     answer: Value,
     places: &[usize; WORDS_ROOM],
@@ -28,7 +42,7 @@ pub(crate) fn answer_value(
 ) -> Ending {
     match answer {
         Value::Refused(refusal) => refuse_words(refusal, places, degree),
-        Value::Done(value) => done_if(output.put_value(b"", value) && output.put(b"\n")),
+        Value::Done(value) => done_if(put_answer(output, value)),
     }
 }
 

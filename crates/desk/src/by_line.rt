@@ -1,5 +1,5 @@
-// Values that come one a line, any number of them, converted through a sheet in lists of 4,096. A line that is no value, or one that is
-// too large, ends the command; what stands before it is converted and written.
+// Values that come one a line, any number of them, converted through a sheet in lists of 4,096. A line that is no value, or has
+// coordinates that are too large, ends the command; what stands before it is converted and written.
 ghost use Prim.Native.Nat.{_≤_};
 ghost use lib.ListN.{length};
 ghost use Rattle.io.specs.Counts.{Counts};
@@ -57,7 +57,7 @@ fn convert_before(
     put_values(output, &into[..written])
 }
 
-// A refused list. The values before one that is too large are converted and written.
+// A refused list. The values before coordinates that are too large are converted and written.
 fn refuse_part(
     goal: Notation,
     bytes: &[u8],

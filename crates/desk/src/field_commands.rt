@@ -34,7 +34,7 @@ pub(crate) fn multiply(places: &[usize; WORDS_ROOM], given: Given, output: Outpu
     let Word::Number(b) = polynomial_at(places[3]) else {
         return Ending::BadWord;
     };
-    answer_value(output, field::multiply(f, a, b), places, degree_of(f))
+    answer_value(output, field::multiply(f, a, b))
 }
 
 pub(crate) fn square(places: &[usize; WORDS_ROOM], given: Given, output: Output) -> Ending {
@@ -47,7 +47,7 @@ pub(crate) fn square(places: &[usize; WORDS_ROOM], given: Given, output: Output)
     let Word::Number(a) = polynomial_at(places[2]) else {
         return Ending::BadWord;
     };
-    answer_value(output, field::square(f, a), places, degree_of(f))
+    answer_value(output, field::square(f, a))
 }
 
 pub(crate) fn trace(places: &[usize; WORDS_ROOM], given: Given, output: Output) -> Ending {
@@ -60,7 +60,7 @@ pub(crate) fn trace(places: &[usize; WORDS_ROOM], given: Given, output: Output) 
     let Word::Number(a) = polynomial_at(places[2]) else {
         return Ending::BadWord;
     };
-    answer_value(output, field::trace(f, a), places, degree_of(f))
+    answer_value(output, field::trace(f, a))
 }
 
 pub(crate) fn search(places: &[usize; WORDS_ROOM], given: Given, output: Output) -> Ending {

@@ -5,9 +5,15 @@ use streams::done_if;
 
 fn put_number_commands(output: Output) -> bool {
     output.put(b"desk check F                    whether the defining polynomial F is accepted\n")
-        && output.put(b"desk multiply F A B             A times B modulo F\n")
-        && output.put(b"desk square F A                 A times A modulo F\n")
-        && output.put(b"desk trace F A                  the sum of the conjugates of A, 0 or 1\n")
+        && output.put(
+            b"desk multiply F A B             A times B modulo F; A and B may be any 64-bit numbers\n",
+        )
+        && output.put(
+            b"desk square F A                 A times A modulo F; A may be any 64-bit number\n",
+        )
+        && output.put(
+            b"desk trace F A                  the sum of the conjugates of A, 0 or 1; A may be any 64-bit number\n",
+        )
         && output.put(
             b"desk search F FIRST LAST        the normal basis of least complexity from FIRST to LAST\n",
         )
@@ -28,7 +34,7 @@ fn put_sheet_commands(output: Output) -> bool {
             b"desk why SHEET                  why a sheet is refused, in one sentence; without SHEET, standard input\n",
         )
         && output.put(
-            b"desk normal SHEET VALUE..       the normal coordinates of elements; with - for VALUE, from standard input\n",
+            b"desk normal SHEET VALUE..       the normal coordinates of elements, which may be any 64-bit numbers;\n                                with - for VALUE, from standard input\n",
         )
         && output.put(
             b"desk polynomial SHEET VALUE..   the elements of normal coordinates; with - for VALUE, from standard input\n",
@@ -77,6 +83,18 @@ fn put_notations(output: Output) -> bool {
         )
 }
 
+fn put_unreduced(output: Output) -> bool {
+    output.put(
+        b"Elements may come unreduced: multiply, square, trace and normal take any number below 2^64, and answer for\n",
+    )
+        && output.put(
+            b"its remainder modulo F, or modulo the polynomial of the sheet; desk multiply F A 1 is the remainder itself.\n",
+        )
+        && output.put(
+            b"ELEMENT, FIRST, LAST and normal coordinates must be below 2^n, for degree n.\n",
+        )
+}
+
 fn put_forms(output: Output) -> bool {
     output.put(
         b"A listing has a line for each row: its number, conjugate, inverse row and table row.\n",
@@ -108,6 +126,7 @@ pub(crate) fn put_help(output: Output) -> Ending {
             && put_matrix_commands(output)
             && put_other_commands(output)
             && put_notations(output)
+            && put_unreduced(output)
             && put_forms(output)
             && put_endings(output),
     )
@@ -115,5 +134,5 @@ pub(crate) fn put_help(output: Output) -> Ending {
 
 // The one version number of the program, the C header and the Rust crate.
 pub(crate) fn put_version(output: Output) -> Ending {
-    done_if(output.put(b"desk 3.0.0\n"))
+    done_if(output.put(b"desk 4.0.0\n"))
 }

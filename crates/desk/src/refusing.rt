@@ -11,7 +11,7 @@ use refusals::Refusal;
 use streams::Ending;
 use words::Word;
 
-// The refusal of a number with more bits than the degree.
+// The refusal of a candidate for a basis, coordinates or a range end with more bits than the degree.
 pub(crate) const TOO_LARGE: u8 = 4;
 
 // Who is told what a refusal means: standard error, or whoever asked for it as an answer.
@@ -29,15 +29,16 @@ impl Listener {
     }
 }
 
-// What document 01's table says of a refusal, and document 02 of 13. Refusal 14 has words of its own, in mismatch.rt. A number that
-// neither document has is told as such.
+// What document 01's table says of a refusal, and document 02 of 13. The element of 4 is a candidate for a basis, since operands may
+// arrive unreduced (document 02, §6). Refusal 14 has words of its own, in mismatch.rt. A number that neither document has is told as
+// such.
 pub(crate) fn tell_meaning(listener: Listener, number: u8) -> bool {
     match number {
         1 => listener.tell(b"the degree of f is not 2 to 46"),
         2 => listener.tell(b"a polynomial of smaller degree, other than 1, divides f"),
         3 => listener.tell(b"squaring x as many times as the degree of f does not bring it back"),
         4 => listener.tell(
-            b"an element, a coordinate number or a range end has more bits than the degree",
+            b"a candidate element, coordinate number or range end has more bits than the degree",
         ),
         5 => listener.tell(b"the element is not normal"),
         6 => listener.tell(b"the buffer is shorter than the sheet or the text"),
@@ -83,9 +84,13 @@ pub(crate) fn refuse(refusal: Refusal) -> Ending {
     refused_if(say_refusal(refusal))
 }
 
-// The end of a line on a number that is too large.
+// The end of a line on a number that is too large: why, and what it must be.
 fn say_degree(degree: u32) -> bool {
-    say(b" has more bits than the degree, ") && say_number(degree as u64) && say(b"\n")
+    say(b" has more bits than the degree, ")
+        && say_number(degree as u64)
+        && say(b"; it must be below 2^")
+        && say_number(degree as u64)
+        && say(b"\n")
 }
 
 // Whether word i is a number with more bits than the degree.
@@ -129,7 +134,7 @@ pub(crate) fn refuse_words(refusal: Refusal, places: &[usize; WORDS_ROOM], degre
     refused_if(say_words_refusal(refusal, places, degree))
 }
 
-// The refusal of a value that came by line and is too large. Its place in the list of all values counts from 0, its line from 1.
+// The refusal of coordinates that came by line and are too large. Their place in the list of all values counts from 0, their line from 1.
 pub(crate) fn refuse_line(place: u64, value: u64, degree: u32) -> Ending {
     let line = std::num::wrapping_add_u64(place, 1);
     refused_if(

@@ -1,5 +1,5 @@
 // The commands on one sheet: build, show, list, verify, why, matrices, times, inverse and quotient.
-use super::answers::answer_value;
+use super::answers::answer_coordinates;
 use super::complaints::no_text;
 use super::complaints::wrong_count;
 use super::input::INPUT_ROOM;
@@ -182,7 +182,7 @@ fn answer_operation(operation: Operation, places: &[usize; WORDS_ROOM], output: 
     }
     let size = io::count(got, &bytes);
     let degree = degree_named(&bytes[..size]);
-    answer_value(output, result_of(operation, &bytes[..size]), places, degree)
+    answer_coordinates(output, result_of(operation, &bytes[..size]), places, degree)
 }
 
 pub(crate) fn times(places: &[usize; WORDS_ROOM], given: Given, output: Output) -> Ending {
