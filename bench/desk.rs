@@ -1,10 +1,10 @@
 //! Times the calls of the desk's archive beside `plain`, the independent
 //! implementation, in one program.
 //!
-//! `desk calls` times the calls on numbers, sheets, causes, lists and texts;
-//! `desk search 20` the searches, and gives each about so many seconds. Every
-//! line printed is a measurement or an answer; answers of one name are the same
-//! for every program that `bench/run` starts:
+//! `desk calls` times the calls on numbers, sheets, causes, lists, words and
+//! texts; `desk search 20` the searches, and gives each about so many seconds.
+//! Every line printed is a measurement or an answer; answers of one name are the
+//! same for every program that `bench/run` starts:
 //!
 //! ```text
 //! time NAME PROGRAM NANOSECONDS           of one call
@@ -13,7 +13,7 @@
 //! ```
 //!
 //! In `desk/`: `rounds` takes times, `inputs` draws what is asked, `calls`,
-//! `causes`, `texts` and `searches` ask it.
+//! `causes`, `words`, `texts` and `searches` ask it.
 
 #[path = "desk/calls.rs"]
 mod calls;
@@ -30,6 +30,8 @@ mod rounds;
 mod searches;
 #[path = "desk/texts.rs"]
 mod texts;
+#[path = "desk/words.rs"]
+mod words;
 
 use std::env;
 use std::process::exit;

@@ -2,8 +2,9 @@
 // desk.rs, whose answers they have to match:
 //
 //   ntl calls            GF2E multiply and square, IterIrredTest, mat_GF2 inversion, and algorithm 3 with the test of f, which is
-//                        what the desk's build has to do; GF2E inv and div on normal coordinates, which are converted and back;
-//                        the text of all matrices from GF2E products of all conjugates; the smallest divisor by CanZass
+//                        what the desk's build has to do; GF2E trace with that test; the same on polynomials of 64 bits, which rem
+//                        reduces; GF2E inv and div on normal coordinates, which are converted and back; the text of all matrices
+//                        from GF2E products of all conjugates; the smallest divisor by CanZass
 //   ntl search SECONDS   the four searches, each of the two ways in ntl/conjugates.h with about so many seconds
 //
 // In ntl/: rounds.h takes times, words.h turns NTL's numbers into words and back, basis.h is algorithm 3, conjugates.h and search.h
@@ -104,6 +105,11 @@ static void run_calls() {
         sqr(answer, a[i % 1024]);
         return word_of(answer);
     });
+    // NTL keeps the traces of the powers of x from the first call on.
+    measure("trace", 1024, [&](word i) -> word {
+        if (!IterIrredTest(f)) return 0;
+        return !IsZero(trace(a[i % 1024]));
+    });
     // 0 is accepted, 2 the desk's refusal.
     measure("check-irreducible", 1, [&](word) { return IterIrredTest(f) ? 0 : 2; });
     measure("check-product", 1, [&](word) { return IterIrredTest(product) ? 0 : 2; });
@@ -117,6 +123,32 @@ static void run_calls() {
     const std::vector<GF2E> conjugates = conjugates_of(inputs.normal[0]);
     for (long i = 0; i < 46; i++) row(basis.conjugates, i) = word_of(conjugates[i]);
     measure("invert", 2, [&](word) { return basis.invert() ? row(basis.conjugates, 0) : 0; });
+}
+
+// Elements that arrive as the words of desk/words.rs: they stand ready as polynomials, and `conv` reduces them by rem.
+static void run_words() {
+    const GF2X f = polynomial(irreducible);
+    GF2E::init(f);
+    Random random{64};
+    std::vector<GF2X> words(2048);
+    for (GF2X &arrived : words) set(arrived, random.number());
+    GF2E a, b, answer;
+    measure("multiply-words", 1024, [&](word i) {
+        conv(a, words[i % 1024]);
+        conv(b, words[1024 + i % 1024]);
+        mul(answer, a, b);
+        return word_of(answer);
+    });
+    measure("square-words", 1024, [&](word i) {
+        conv(a, words[i % 1024]);
+        sqr(answer, a);
+        return word_of(answer);
+    });
+    measure("trace-words", 1024, [&](word i) -> word {
+        if (!IterIrredTest(f)) return 0;
+        conv(a, words[i % 1024]);
+        return !IsZero(trace(a));
+    });
 }
 
 // An irreducible polynomial of this degree, drawn as desk/causes.rs draws it.
@@ -242,6 +274,7 @@ int main(int count, char **words) {
     if (count == 2 && !std::strcmp(words[1], "calls")) {
         std::printf("version ntl %s\n", NTL_VERSION);
         run_calls();
+        run_words();
         run_causes();
         for (word f : by_degree) {
             run_divisions(f);

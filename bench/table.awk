@@ -1,12 +1,17 @@
-# Makes the tables of a page of figures of the lines that desk.rs and ntl.cpp print (desk.rs has their form). A call that was timed
-# in several passes has the median of their times. What a program does not do, or did not run, is a dash.
+# Makes the tables of a page of figures of the lines that desk.rs and ntl.cpp print, with what times.awk has: a call that was timed in
+# several passes has the median of their times. What a program does not do, or did not run, is a dash.
 
 BEGIN {
-    calls = "multiply square check-irreducible check-product build read why-accepted why-differing why-dependent why-power"
-    calls = calls " why-square why-three why-two why-slowest convert-one times-46 inverse-46 quotient-46"
-    calls = calls " convert-4096 convert-4096-singly write_matrices-46 read_matrices-46"
+    calls = "multiply multiply-words square square-words trace trace-words check-irreducible check-product build read"
+    calls = calls " why-accepted why-differing why-dependent why-power why-square why-three why-two why-slowest"
+    calls = calls " convert-one convert-one-word times-46 inverse-46 quotient-46"
+    calls = calls " convert-4096 convert-4096-singly convert-4096-words write_matrices-46 read_matrices-46"
     label["multiply"] = "multiply"
+    label["multiply-words"] = "multiply, words"
     label["square"] = "square"
+    label["square-words"] = "square, words"
+    label["trace"] = "trace"
+    label["trace-words"] = "trace, words"
     label["check-irreducible"] = "check, f irreducible"
     label["check-product"] = "check, f a product of two of degree 23"
     label["build"] = "build"
@@ -20,11 +25,13 @@ BEGIN {
     label["why-two"] = "why, f a product of two of degree 23"
     label["why-slowest"] = "why, f the slowest product of two of degree 23"
     label["convert-one"] = "convert one"
+    label["convert-one-word"] = "convert one, a word"
     label["times-46"] = "times"
     label["inverse-46"] = "inverse"
     label["quotient-46"] = "quotient"
     label["convert-4096"] = "convert 4,096; plain by its list"
     label["convert-4096-singly"] = "convert 4,096; plain by 4,096 single calls"
+    label["convert-4096-words"] = "convert 4,096 words; plain by its list"
     label["write_matrices-46"] = "write_matrices"
     label["read_matrices-46"] = "read_matrices"
     by_degree = "times inverse quotient write_matrices read_matrices"
@@ -36,10 +43,6 @@ BEGIN {
     label["search-46-from-2^45"] = "degree 46, from 2^45, f = 2^46+3"
     whole["search-16"] = 16
     whole["search-20"] = whole["search-46-from-0"] = whole["search-46-from-2^45"] = 20
-}
-
-$1 == "time" {
-    times[$2, $3] = times[$2, $3] " " $4
 }
 
 $1 == "search" {
@@ -57,38 +60,9 @@ $1 == "answer" && NF == 6 {
     }
 }
 
-function median(list,    values, count, i, j, value) {
-    count = split(list, values, " ")
-    for (i = 2; i <= count; i++) {
-        value = values[i] + 0
-        for (j = i - 1; j >= 1 && values[j] + 0 > value; j--) values[j + 1] = values[j]
-        values[j + 1] = value
-    }
-    return values[int((count + 1) / 2)] + 0
-}
-
-function time_of(call, program) {
-    return (call, program) in times ? median(times[call, program]) : 0
-}
-
 # Elements a second, 0 where the program did not search.
 function rate_of(search, program) {
     return (search, program) in rate ? rate[search, program] : 0
-}
-
-function digits(number) {
-    return sprintf(number < 0.1 ? "%.3f" : number < 10 ? "%.2f" : number < 100 ? "%.1f" : "%.0f", number)
-}
-
-function shown_time(nanoseconds) {
-    if (nanoseconds == 0) return "-"
-    if (nanoseconds < 1e3) return digits(nanoseconds) " ns"
-    if (nanoseconds < 1e6) return digits(nanoseconds / 1e3) " µs"
-    return digits(nanoseconds / 1e6) " ms"
-}
-
-function shown_ratio(number, other) {
-    return number == 0 || other == 0 ? "-" : digits(number / other)
 }
 
 function with_commas(number,    text, shown) {

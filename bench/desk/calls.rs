@@ -4,6 +4,7 @@ use crate::causes;
 use crate::inputs::{Inputs, F, LOWER, OPERANDS, PRODUCT, SHEETS};
 use crate::rounds::{fold, pair};
 use crate::texts;
+use crate::words;
 use sabrentuglio::{raw, MAX_LIST};
 
 /// Runs all of them.
@@ -15,6 +16,7 @@ pub fn run() {
     causes::run(&inputs);
     conversions(&inputs);
     lists(&inputs);
+    words::run(&inputs);
     through_table(&inputs);
     texts::run(&inputs);
     for f in LOWER {
@@ -134,7 +136,7 @@ fn lists(inputs: &Inputs) {
 
 /// Compares whole lists, then times both; the last value of a list stands for
 /// it in the fold.
-fn list_pair(name: &str, desk: impl Fn(usize, &mut [u64]), plain: impl Fn(usize, &mut [u64])) {
+pub fn list_pair(name: &str, desk: impl Fn(usize, &mut [u64]), plain: impl Fn(usize, &mut [u64])) {
     let mut by_desk = [0; MAX_LIST];
     let mut by_plain = [0; MAX_LIST];
     for i in 0..SHEETS {

@@ -7,7 +7,7 @@
 use std::sync::atomic::{AtomicU64, Ordering};
 
 /// Rounds of each program, an odd number.
-const ROUNDS: usize = 5;
+pub const ROUNDS: usize = 5;
 
 /// The shortest round in seconds.
 const ROUND: f64 = 0.01;
@@ -30,9 +30,12 @@ pub fn now() -> f64 {
     unsafe { clock() as f64 / 1e6 }
 }
 
-/// Folds the answers of calls 0, 1, .. below `times`.
+/// Folds the answers of calls 0, 1, .. below `times`. The factor, of the hash
+/// FNV-1a, keeps a difference that every answer has from cancelling itself.
 pub fn fold(times: u64, mut call: impl FnMut(usize) -> u64) -> u64 {
-    (0..times as usize).fold(0, |sum, i| sum.rotate_left(1) ^ call(i))
+    (0..times as usize).fold(0, |sum, i| {
+        (sum.rotate_left(1) ^ call(i)).wrapping_mul(0x100000001b3)
+    })
 }
 
 /// The median of an odd number of times.
@@ -59,14 +62,15 @@ pub fn pair<'a>(name: &str, compared: u64, desk: Repeated<'a>, plain: Repeated<'
     }
 }
 
-fn seconds(call: Repeated, repetitions: u64) -> f64 {
+/// How long so many repetitions take.
+pub fn seconds(call: Repeated, repetitions: u64) -> f64 {
     let start = now();
     USED.fetch_xor(call(repetitions), Ordering::Relaxed);
     now() - start
 }
 
 /// How often a round repeats a call.
-fn repetitions(call: Repeated) -> u64 {
+pub fn repetitions(call: Repeated) -> u64 {
     let mut repetitions = 1;
     while seconds(call, repetitions) < ROUND {
         repetitions *= 2;

@@ -16,8 +16,8 @@ const double shortest_round = 0.01;
 
 inline double now() { return static_cast<double>(std::clock()) / CLOCKS_PER_SEC; }
 
-// One more answer in a fold, so that no answer can be left out.
-inline std::uint64_t folded(std::uint64_t sum, std::uint64_t answer) { return (sum << 1 | sum >> 63) ^ answer; }
+// One more answer in a fold, as desk/rounds.rs has it, so that no answer can be left out.
+inline std::uint64_t folded(std::uint64_t sum, std::uint64_t answer) { return ((sum << 1 | sum >> 63) ^ answer) * 0x100000001b3; }
 
 inline double median(std::vector<double> times) {
     std::sort(times.begin(), times.end());
