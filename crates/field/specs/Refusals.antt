@@ -5,7 +5,8 @@
 --   ..Rule         the rows 1 to 4
 --   ..Order        the orders of the calls, and three parts of orders:
 --   elementOrder   4 alone
---   operandOrder   1, then 4: what every call on a polynomial and candidates or range ends begins with
+--   operandOrder   1, then 4: what every call on a polynomial and candidates or range ends begins with; operands of the field calls
+--                  have no 4
 --   fieldOrder     2, then 3: what every call that needs an accepted f tests
 --
 -- Assumes nothing.

@@ -15,7 +15,7 @@ use gf2::spread_table;
 use refusals::Checked;
 use refusals::Value;
 
-// The product of the elements that two words stand for. The product reduces its second operand itself.
+// The product of the elements that two words stand for. `gf2::multiply` reduces its second operand itself.
 fn product(f: u64, n: u32, a: u64, b: u64) -> u64
     requires { ⌜ InRange f n ⌝ }
     ensures { λ r. ⌜ r ≡ mulMod f n (rem f n a) (rem f n b) ⌝ }

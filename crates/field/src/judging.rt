@@ -44,7 +44,7 @@ pub fn operand_verdict(f: u64, a: u64) -> Checked
     operands_verdict(f, a, a)
 }
 
-// 1 alone: all that a call asks which takes any words as its operands.
+// 1 alone: all that multiply and square refuse.
 pub fn degree_verdict(f: u64) -> Checked
     ensures { λ r. ⌜ r ≡ checkedOf (firstOf (degreeRule f ∷ [])) ⌝ }
 {
@@ -54,7 +54,7 @@ pub fn degree_verdict(f: u64) -> Checked
     Checked::Done
 }
 
-// 1, 2, 3.
+// 1, 2, 3: the check of f, and a trace.
 pub fn check_verdict(table: &[u16; 256], f: u64) -> Checked
     requires { ⌜ SpreadTable (now table) ⌝ }
     ensures { λ r. ⌜ r ≡ checkedOf (firstOf (checkOrder f)) ⌝ }

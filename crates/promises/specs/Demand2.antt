@@ -256,6 +256,9 @@ module _ (sheet : List ℕ) (t : Summary) (r : readAnswer sheet ≡ issued.Done 
       → (v : ℕ) × (normalAnswer sheet word ≡ value.Done v) × (polynomialAnswer sheet v ≡ value.Done (rem (polynomialIn sheet) (recordCount sheet) word))
   accepted-there-and-back = there-and-back (polynomialIn sheet) (recordCount sheet) (conjugateIn sheet 0) sheet accepted-sheet
 
+  pub accepted-there-and-back-same : (y : ℕ) → y < 2 ^ recordCount sheet → (v : ℕ) × (normalAnswer sheet y ≡ value.Done v) × (polynomialAnswer sheet v ≡ value.Done y)
+  accepted-there-and-back-same = there-and-back-same (polynomialIn sheet) (recordCount sheet) (conjugateIn sheet 0) sheet accepted-sheet
+
   pub accepted-back-and-there : (v : ℕ) → v < 2 ^ recordCount sheet → (y : ℕ) × (polynomialAnswer sheet v ≡ value.Done y) × (normalAnswer sheet y ≡ value.Done v)
   accepted-back-and-there = back-and-there (polynomialIn sheet) (recordCount sheet) (conjugateIn sheet 0) sheet accepted-sheet
 

@@ -9,7 +9,7 @@
 use mathlib.Core.Path.{_≡_, refl, sym, ap, ap₂, _∙_}
 use mathlib.Core.Logic.{_⊎_, inl, inr, ⊎-elim}
 use mathlib.Core.Bool.{true, false}
-use mathlib.Core.List.{List, [], _∷_, _++_, map}
+use mathlib.Core.List.{List, [], _∷_, _++_, map, append-assoc}
 use Prim.Native.Nat.{ℕ, _^_, _≤_, _<_}
 use native.Mathlib.Omega.{arith}
 use lib.ListN.{length, getD}
@@ -17,11 +17,13 @@ use Rattle.gf2.specs.Poly.{degree, mulMod}
 use Rattle.gf2.specs.Numbers.{order}
 use Rattle.gf2.specs.Remainder.{rem-small}
 use Rattle.gf2.specs.Truth.{bool-cases, or-false}
-use Rattle.refusals.specs.Answers.{left, valueOf, checkedOf}
+use Rattle.refusals.specs.Answers.{refusalAt, answerOf, left, valueOf, checkedOf}
 use Rattle.refusals.specs.Orders.{first-applies, first-passes, part-refused, part-clear, parts-clear}
 use Rattle.refusals.specs.Verdicts.{Rule, Verdict, clear, refuse, firstOf}
 use Rattle.refusals.specs.declared.answer.Checked.{Checked}
 use Rattle.refusals.specs.declared.answer.Value.{Value}
+use Rattle.refusals.specs.declared.answer.Value.the-variants as value
+use Rattle.refusals.specs.declared.answer.Checked.the-variants as checked
 use Rattle.field.specs.Accepted.{degreeOutside}
 use Rattle.field.specs.Answers.{element, multiplyAnswer, squareAnswer, traceAnswer}
 use Rattle.field.specs.Field.{trace}
@@ -29,7 +31,7 @@ use Rattle.field.specs.Orders.{not-too-large, large-enough, element-large, elem
 use Rattle.field.specs.Refusals.{tooLarge, anyTooLarge, degreeRule, elementRule, elementOrder, operandOrder, fieldOrder}
 use Rattle.rows.specs.Rows.{comb}
 use Rattle.sheet.specs.Record.{recordCount, polynomialIn, inverseRowsIn}
-use Rattle.sheet.specs.Orders.{Small, shapeOrder, valueRules, valueOrder, listOrder, polynomialListOrder}
+use Rattle.sheet.specs.Orders.{Small, listRule, shapeOrder, valueRules, valueOrder, listOrder, polynomialListOrder}
 use Rattle.sheet.specs.Answers.{elementIn, toNormal, normalAnswer, normalListAnswer, normalList}
 use Rattle.sheet.specs.Lists.{firstLarge, large-verdict, small-verdict, coordinates-small, map-agree}
 use Rattle.sheet.specs.Through.{value-small, values-small, all-small}
@@ -49,14 +51,26 @@ traceBefore f a = valueOf (firstOf (operandOrder f (a ∷ []) ++ fieldOrder f)) 
 unfoldable pub normalBefore : (sheet : List ℕ) (y : ℕ) → Value
 normalBefore sheet y = valueOf (firstOf (valueOrder sheet (y ∷ []))) (comb (inverseRowsIn sheet) y)
 
--- the order was that of converting the other way
+-- "the same, with 11 before 4", in both directions
+abbrev pub listOrderBefore : (sheet from : List ℕ) (room : ℕ) → List Rule
+listOrderBefore sheet from room = shapeOrder sheet ++ (listRule (length from) room ∷ valueRules (recordCount sheet) 0 from)
+
 unfoldable pub normalListAnswerBefore : (sheet from : List ℕ) (room : ℕ) → Checked
-normalListAnswerBefore sheet from room = checkedOf (firstOf (polynomialListOrder sheet from room))
+normalListAnswerBefore sheet from room = checkedOf (firstOf (listOrderBefore sheet from room))
 
 unfoldable pub normalListBefore : (sheet from into : List ℕ) → List ℕ
-normalListBefore sheet from into = left (firstOf (polynomialListOrder sheet from (length into))) (map (comb (inverseRowsIn sheet)) from) into
+normalListBefore sheet from into = left (firstOf (listOrderBefore sheet from (length into))) (map (comb (inverseRowsIn sheet)) from) into
+
+-- converting from coordinates has that order still
+pub coordinates-order : (sheet from : List ℕ) (room : ℕ) → polynomialListOrder sheet from room ≡ listOrderBefore sheet from room
+coordinates-order sheet from room = append-assoc (shapeOrder sheet) (listRule (length from) room ∷ []) (valueRules (recordCount sheet) 0 from)
 
 -- ---- the same as before, but for 4
+
+-- an order that gave 4 refused, whatever the value
+four : (y : ℕ) {v : Verdict} → v ≡ refuse 4 0 → valueOf v y ≡ value.Refused (refusalAt 4 0)
+unfolding answerOf
+four y e = rw e refl
 
 -- 4 stood after 1; whatever stands after it is judged as before where it does not apply
 module _ (f : ℕ) (values : List ℕ) (rest : List Rule) (x y : ℕ) where
@@ -72,14 +86,14 @@ module _ (f : ℕ) (values : List ℕ) (rest : List Rule) (x y : ℕ) where
       (bool-cases (degreeOutside f))
 
   operand-changed : (anyTooLarge (degree f) values ≡ false → x ≡ y)
-      → (valueOf (firstOf (degreeRule f ∷ rest)) x ≡ valueOf (firstOf (operandOrder f values ++ rest)) y) ⊎ (firstOf (operandOrder f values ++ rest) ≡ refuse 4 0)
+      → (valueOf (firstOf (degreeRule f ∷ rest)) x ≡ valueOf (firstOf (operandOrder f values ++ rest)) y) ⊎ (valueOf (firstOf (operandOrder f values ++ rest)) y ≡ value.Refused (refusalAt 4 0))
   operand-changed same =
       ⊎-elim
       (λ (e : anyTooLarge (degree f) values ≡ true).
       ⊎-elim
       (λ (o : degreeOutside f ≡ true).
       inl (rw (first-applies (degreeRule f) rest o, first-applies (degreeRule f) (elementRule (degree f) values ∷ rest) o) (refused-same 1 0 x y)))
-      (λ (o : degreeOutside f ≡ false). inr (first-passes (degreeRule f) (elementRule (degree f) values ∷ rest) o ∙ first-applies (elementRule (degree f) values) rest e))
+      (λ (o : degreeOutside f ≡ false). inr (four y (first-passes (degreeRule f) (elementRule (degree f) values ∷ rest) o ∙ first-applies (elementRule (degree f) values) rest e)))
       (bool-cases (degreeOutside f)))
       (λ (e : anyTooLarge (degree f) values ≡ false). inl (operand-kept e (same e)))
       (bool-cases (anyTooLarge (degree f) values))
@@ -94,15 +108,15 @@ two-elements f a b e =
     ap₂ (mulMod f (degree f)) (rem-small f (degree f) a (not-too-large (degree f) a (p .0))) (one-element f b (p .1))
 
 module _ (f a : ℕ) where
-  pub multiply-changed : (b : ℕ) → (multiplyAnswer f a b ≡ multiplyBefore f a b) ⊎ (firstOf (operandOrder f (a ∷ b ∷ [])) ≡ refuse 4 0)
+  pub multiply-changed : (b : ℕ) → (multiplyAnswer f a b ≡ multiplyBefore f a b) ⊎ (multiplyBefore f a b ≡ value.Refused (refusalAt 4 0))
   unfolding multiplyAnswer multiplyBefore
   multiply-changed b = operand-changed f (a ∷ b ∷ []) [] _ _ (two-elements f a b)
 
-  pub square-changed : (squareAnswer f a ≡ squareBefore f a) ⊎ (firstOf (operandOrder f (a ∷ [])) ≡ refuse 4 0)
+  pub square-changed : (squareAnswer f a ≡ squareBefore f a) ⊎ (squareBefore f a ≡ value.Refused (refusalAt 4 0))
   unfolding squareAnswer squareBefore
   square-changed = operand-changed f (a ∷ []) [] _ _ (λ e. ap (λ (x : ℕ). mulMod f (degree f) x x) (one-element f a e))
 
-  pub trace-changed : (traceAnswer f a ≡ traceBefore f a) ⊎ (firstOf (operandOrder f (a ∷ []) ++ fieldOrder f) ≡ refuse 4 0)
+  pub trace-changed : (traceAnswer f a ≡ traceBefore f a) ⊎ (traceBefore f a ≡ value.Refused (refusalAt 4 0))
   unfolding traceAnswer traceBefore
   trace-changed = operand-changed f (a ∷ []) (fieldOrder f) _ _ (λ e. ap (trace f (degree f)) (one-element f a e))
 
@@ -152,14 +166,18 @@ module _ (sheet : List ℕ) where
       (λ (r : (k p : ℕ) × (firstOf (shapeOrder sheet) ≡ refuse k p)). shape-refused y y (r .0) (r .1) (r .2))
       (verdict-cases (firstOf (shapeOrder sheet)))
 
-  pub normal-changed : (y : ℕ) → (normalAnswer sheet y ≡ normalBefore sheet y) ⊎ (firstOf (valueOrder sheet (y ∷ [])) ≡ refuse 4 0)
+  value-four : (y : ℕ) → firstOf (valueOrder sheet (y ∷ [])) ≡ refuse 4 0 → normalBefore sheet y ≡ value.Refused (refusalAt 4 0)
+  unfolding normalBefore
+  value-four y e = four (comb (inverseRowsIn sheet) y) e
+
+  pub normal-changed : (y : ℕ) → (normalAnswer sheet y ≡ normalBefore sheet y) ⊎ (normalBefore sheet y ≡ value.Refused (refusalAt 4 0))
   normal-changed y =
       ⊎-elim
       (λ (e : firstOf (shapeOrder sheet) ≡ clear).
       ⊎-elim
       (λ (h : y < 2 ^ recordCount sheet). inl (shape-kept e y h))
       (λ (h : 2 ^ recordCount sheet ≤ y).
-      inr (part-clear (shapeOrder sheet) (elementOrder (recordCount sheet) (y ∷ [])) e ∙ element-large (recordCount sheet) (y ∷ []) (rw (large-enough (recordCount sheet) y h) refl)))
+      inr (value-four y (part-clear (shapeOrder sheet) (elementOrder (recordCount sheet) (y ∷ [])) e ∙ element-large (recordCount sheet) (y ∷ []) (rw (large-enough (recordCount sheet) y h) refl))))
       (order y (2 ^ recordCount sheet)))
       (λ (r : (k p : ℕ) × (firstOf (shapeOrder sheet) ≡ refuse k p)). inl (shape-refused y y (r .0) (r .1) (r .2)))
       (verdict-cases (firstOf (shapeOrder sheet)))
@@ -179,22 +197,28 @@ module _ (sheet from into : List ℕ) where
 
   list-refused : (k p : ℕ) → began ≡ refuse k p → AsBefore
   unfolding normalListAnswer normalListAnswerBefore normalList normalListBefore left
-  list-refused k p e = let f = part-refused (listOrder sheet (length from) (length into)) fours k p e in (rw (e, f) refl, rw (e, f) refl)
+  list-refused k p e =
+      let f = sym (ap firstOf (coordinates-order sheet from (length into))) ∙ part-refused (listOrder sheet (length from) (length into)) fours k p e in
+      (rw (e, f) refl, rw (e, f) refl)
 
   list-elements : began ≡ clear → firstOf fours ≡ clear → Small (recordCount sheet) from → AsBefore
   unfolding normalListAnswer normalListAnswerBefore normalList normalListBefore left
   list-elements e c small =
-      let f = part-clear (listOrder sheet (length from) (length into)) fours e ∙ c in
+      let f = sym (ap firstOf (coordinates-order sheet from (length into))) ∙ part-clear (listOrder sheet (length from) (length into)) fours e ∙ c in
       let shape = parts-clear (shapeOrder sheet) _ e .0 in
       (rw (e, f) refl, rw (e, f) (map-agree (toNormal sheet) (comb (inverseRowsIn sheet)) from (λ i h. own-coordinates sheet shape (getD from i 0) (small i h))))
 
-  pub list-changed : AsBefore ⊎ ((i : ℕ) × (firstOf (polynomialListOrder sheet from (length into)) ≡ refuse 4 i))
+  list-four : (i : ℕ) → firstOf (polynomialListOrder sheet from (length into)) ≡ refuse 4 i → normalListAnswerBefore sheet from (length into) ≡ checked.Refused (refusalAt 4 i)
+  unfolding normalListAnswerBefore answerOf
+  list-four i e = ap checkedOf (sym (ap firstOf (coordinates-order sheet from (length into))) ∙ e)
+
+  pub list-changed : AsBefore ⊎ ((i : ℕ) × (normalListAnswerBefore sheet from (length into) ≡ checked.Refused (refusalAt 4 i)))
   list-changed =
       ⊎-elim
       (λ (e : began ≡ clear).
       ⊎-elim
       (λ (h : firstLarge (recordCount sheet) 0 from < length from).
-      inr (firstLarge (recordCount sheet) 0 from, part-clear (listOrder sheet (length from) (length into)) fours e ∙ large-verdict (recordCount sheet) 0 from (omega arith)))
+      inr (firstLarge (recordCount sheet) 0 from, list-four _ (part-clear (listOrder sheet (length from) (length into)) fours e ∙ large-verdict (recordCount sheet) 0 from (omega arith))))
       (λ (h : length from ≤ firstLarge (recordCount sheet) 0 from).
       let c = small-verdict (recordCount sheet) 0 from (omega arith) in
       inl (list-elements e c (coordinates-small (recordCount sheet) 0 from c)))

@@ -7,9 +7,9 @@
 --   field-orders, ..-sequence                         the numbers of an order, one after another, are those that the documents list
 --
 -- Assumes nothing.
-use mathlib.Core.Path.{_≡_, refl, ap, ap₂, _∙_}
+use mathlib.Core.Path.{_≡_, refl, ap, _∙_}
 use mathlib.Core.Logic.{_⊎_, inl, inr}
-use mathlib.Core.List.{List, [], _∷_, _++_}
+use mathlib.Core.List.{List, [], _∷_, _++_, append-assoc}
 use Prim.Native.Nat.{ℕ, zero, suc, _+_, _≤_, _<_}
 use native.Mathlib.Omega.{arith}
 use lib.ListN.{length, replicate}
@@ -205,10 +205,11 @@ pub words-sequence : (sheet from : List ℕ) (room : ℕ) → numbersOf (normalL
 words-sequence sheet from room = shape-then sheet (listRule (length from) room ∷ [])
 
 pub list-sequence : (sheet from : List ℕ) (room : ℕ)
-    → numbersOf (polynomialListOrder sheet from room) ≡ (7 ∷ (eightNine (recordCount sheet) ++ (11 ∷ []))) ++ replicate (length from) 4
+    → numbersOf (polynomialListOrder sheet from room) ≡ 7 ∷ (eightNine (recordCount sheet) ++ (11 ∷ replicate (length from) 4))
 list-sequence sheet from room =
-    numbers-append (listOrder sheet (length from) room) (valueRules (recordCount sheet) 0 from)
-    ∙ ap₂ _++_ (words-sequence sheet from room) (fours (recordCount sheet) 0 from)
+    ap numbersOf (append-assoc (shapeOrder sheet) (listRule (length from) room ∷ []) (valueRules (recordCount sheet) 0 from))
+    ∙ shape-then sheet (listRule (length from) room ∷ valueRules (recordCount sheet) 0 from)
+    ∙ ap (λ (l : List ℕ). 7 ∷ (eightNine (recordCount sheet) ++ (11 ∷ l))) (fours (recordCount sheet) 0 from)
 
 tens : (sheet rebuilt : List ℕ) (i k : ℕ) → numbersOf (differRules sheet rebuilt i k) ≡ replicate k 10
 unfolding differRules

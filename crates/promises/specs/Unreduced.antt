@@ -55,7 +55,7 @@ by-degree f rest x y e =
     (bool-cases (degreeOutside f))
 
 module _ (f a : ℕ) where
-  -- "a product of unreduced operands is the product of their remainders"
+  -- a product of unreduced operands is the product of their remainders
   pub multiply-remainders : (b : ℕ) → multiplyAnswer f a b ≡ multiplyAnswer f (element f a) (element f b)
   unfolding multiplyAnswer
   multiply-remainders b =
@@ -72,7 +72,7 @@ module _ (f a : ℕ) where
 -- ---- converting from polynomial notation, on every sheet, whatever polynomial it names
 
 module _ (sheet : List ℕ) (shape : firstOf (shapeOrder sheet) ≡ clear) where
-  pub named-degree : Degree (polynomialIn sheet) (recordCount sheet)
+  named-degree : Degree (polynomialIn sheet) (recordCount sheet)
   named-degree = polynomial-degree sheet (clear-shaped sheet shape)
 
   same-coordinates : (word : ℕ) → toNormal sheet word ≡ toNormal sheet (elementIn sheet word)

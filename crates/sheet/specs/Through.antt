@@ -80,7 +80,7 @@ module _ (f n a : ℕ) (sheet : List ℕ) (s : SheetOf f n a sheet) where
   element-of v = ap (λ (rows : List ℕ). comb rows v) (conjugate-rows f n a sheet s)
 
   -- the sheet's polynomial is f
-  pub remainder-of : (word : ℕ) → elementIn sheet word ≡ rem f n word
+  remainder-of : (word : ℕ) → elementIn sheet word ≡ rem f n word
   unfolding elementIn
   remainder-of word = rw (held-polynomial f n a sheet s, held-count f n a sheet s)
 
@@ -88,7 +88,7 @@ module _ (f n a : ℕ) (sheet : List ℕ) (s : SheetOf f n a sheet) where
   unfolding toNormal
   coordinates-of word = ap₂ comb (inverse-rows f n a sheet s) (remainder-of word)
 
-  pub element-lt : (v : ℕ) → v < 2 ^ n → toPolynomial sheet v < 2 ^ n
+  element-lt : (v : ℕ) → v < 2 ^ n → toPolynomial sheet v < 2 ^ n
   element-lt v h = rw (element-of v) (selected-lt f n deg a ha v h)
 
   pub coordinates-lt : (word : ℕ) → toNormal sheet word < 2 ^ n

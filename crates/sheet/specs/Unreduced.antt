@@ -114,7 +114,7 @@ module _ (sheet : List ℕ) (z : Shaped sheet) where
   element-in-lt word = rem-lt (polynomialIn sheet) (recordCount sheet) (polynomial-degree sheet z) word
 
 -- by the rows that were loaded a word is converted as by the sheet's own
-pub loaded-word : (sheet : List ℕ) {loaded : List ℕ} → loaded ≡ padded (inverseRowsIn sheet) → (word : ℕ)
+loaded-word : (sheet : List ℕ) {loaded : List ℕ} → loaded ≡ padded (inverseRowsIn sheet) → (word : ℕ)
     → inNormal (polynomialIn sheet) (recordCount sheet) loaded word ≡ toNormal sheet word
 unfolding inNormal toNormal elementIn
 loaded-word sheet e word = rw e (padded-comb (inverseRowsIn sheet) (rem (polynomialIn sheet) (recordCount sheet) word))

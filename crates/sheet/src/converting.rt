@@ -76,7 +76,7 @@ fn element_in(sheet: &[u8], word: u64) -> u64
     element_of(polynomial_of(sheet), (sheet.len() / RECORD) as u32, word)
 }
 
-// The sum of the inverse rows that the bits of that element pick.
+// The coordinates of the element that a word stands for: the sum of the inverse rows that its bits pick.
 fn coordinates_in(sheet: &[u8], word: u64) -> u64
     requires { ⌜ Shaped (now sheet) ⌝ }
     ensures { λ r. ⌜ r ≡ toNormal (now (sheet .entry)) word ⌝ }

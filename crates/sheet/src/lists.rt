@@ -1,8 +1,8 @@
 // The public calls that convert lists. A destination is written only if nothing is refused.
 ghost use mathlib.Core.Path.{_≡_};
 ghost use mathlib.Core.List.{[], _∷_, map};
-ghost use Prim.Native.Nat.{ℕ, _^_, _<_};
-ghost use lib.ListN.{length, getD};
+ghost use Prim.Native.Nat.{_<_};
+ghost use lib.ListN.{length};
 ghost use Rattle.gf2.specs.Limit.{limit};
 ghost use Rattle.refusals.specs.Verdicts.{firstOf};
 ghost use Rattle.refusals.specs.Answers.{checkedOf, checkedReport};
@@ -35,7 +35,7 @@ use rows::sum_by_bytes;
 pub const LIST_LIMIT: usize = 4096;
 
 // A list of so many values or more takes its sums from tables. Making the tables takes as long as summing bit by bit takes for a dozen
-// values at degree 46, for 48 at degree 10, and for more at smaller degrees.
+// coordinate numbers at degree 46, for 48 at degree 10, and for more at smaller degrees; for words see docs/SPEED.md, "Lists".
 const TABLES_PAY: usize = 48;
 
 // The index of the first value that is 2^n or more, or the number of values.
@@ -67,7 +67,7 @@ fn copy(from: &[u64], into: &mut [u64])
 
 // Every value converted by the rows, where it stands.
 fn convert_all(rows: &[u64; LIMIT], list: &mut [u64])
-    requires { ⌜ ((i : ℕ) → i < length (now list) → getD (now list) i 0 < 2 ^ limit) ⌝ }
+    requires { ⌜ Small limit (now list) ⌝ }
     ensures { λ r. ⌜ now (list .exit) ≡ map (comb (now (rows .entry))) (now (list .entry)) ⌝ }
 {
     let mut i: usize = 0;
@@ -79,7 +79,7 @@ fn convert_all(rows: &[u64; LIMIT], list: &mut [u64])
 
 // The same from the tables of the rows, made once for the whole list.
 fn convert_by_bytes(rows: [u64; LIMIT], list: &mut [u64])
-    requires { ⌜ ((i : ℕ) → i < length (now list) → getD (now list) i 0 < 2 ^ limit) ⌝ }
+    requires { ⌜ Small limit (now list) ⌝ }
     ensures { λ r. ⌜ now (list .exit) ≡ map (comb rows) (now (list .entry)) ⌝ }
 {
     let mut sums: [u64; BYTE_SUMS] = [0; BYTE_SUMS];
@@ -91,7 +91,7 @@ fn convert_by_bytes(rows: [u64; LIMIT], list: &mut [u64])
 
 // Every value converted by the rows, in the way that is faster for a list of its length.
 fn convert_values(rows: [u64; LIMIT], list: &mut [u64])
-    requires { ⌜ ((i : ℕ) → i < length (now list) → getD (now list) i 0 < 2 ^ limit) ⌝ }
+    requires { ⌜ Small limit (now list) ⌝ }
     ensures { λ r. ⌜ now (list .exit) ≡ map (comb rows) (now (list .entry)) ⌝ }
 {
     if list.len() < TABLES_PAY {

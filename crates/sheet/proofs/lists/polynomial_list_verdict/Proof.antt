@@ -1,8 +1,10 @@
 -- `sheet::lists::polynomial_list_verdict` meets its contract: the shape and 11, then 4.
 -- Assumes nothing.
+use Prim.Native.Nat.{_≤_}
 use native.Mathlib.Omega.{arith}
 use borrow.Author.Needs.{needs}
 use lib.ListN.{length}
+use Rattle.gf2.specs.Limit.{limit}
 use Rattle.refusals.specs.Verdicts.{firstOf}
 use Rattle.refusals.specs.Answered.{judged-clear, then-refused, then-rest}
 use Rattle.sheet.specs.Record.{recordCount}
@@ -20,21 +22,19 @@ enum-known-list c = search needs
 enum-told : tie.Need-enum-told
 enum-told c = search needs
 
-cast-coordinates-verdict : tie.Need-cast-coordinates-verdict
-cast-coordinates-verdict c =
+-- a list that is not refused stands beside a sheet of good shape
+degree-most : (c : tie.After-enum-told) → recordCount (c .before .before .before .before .before .args .sheet .now) ≤ limit
+degree-most c =
     let v = c .before .before in
     let s = v .before .before .before in
     let order = listOrder (s .args .sheet .now) (length (s .args .from .now)) (s .args .room) in
-    let j = list-judged (s .args .sheet .now) (length (s .args .from .now)) (s .args .room) (judged-clear (firstOf order) (v .list-verdict .ensures) (c .enum-told .given .1)) in
-    omega (arith, j .0 .size .most)
+    list-judged (s .args .sheet .now) (length (s .args .from .now)) (s .args .room) (judged-clear (firstOf order) (v .list-verdict .ensures) (c .enum-told .given .1)) .0 .size .most
+
+cast-coordinates-verdict : tie.Need-cast-coordinates-verdict
+cast-coordinates-verdict c = omega (arith, degree-most c)
 
 coordinates-verdict-requires : tie.Need-coordinates-verdict-requires
-coordinates-verdict-requires c κs =
-    let v = c .before .before in
-    let s = v .before .before .before in
-    let order = listOrder (s .args .sheet .now) (length (s .args .from .now)) (s .args .room) in
-    let j = list-judged (s .args .sheet .now) (length (s .args .from .now)) (s .args .room) (judged-clear (firstOf order) (v .list-verdict .ensures) (c .enum-told .given .1)) in
-    omega (arith, j .0 .size .most)
+coordinates-verdict-requires c κs = omega (arith, degree-most c)
 
 returns : tie.Need-returns
 returns c =
