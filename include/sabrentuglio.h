@@ -251,8 +251,8 @@ desk_value desk_to_polynomial(const uint8_t *sheet, size_t length, uint64_t coor
  * Returns the normal coordinates of an element: the sum of the sheet's inverse rows that its bits
  * pick. The element is any number; it stands for its remainder modulo the sheet's polynomial, which
  * is 2^n plus bytes 2-7 of record 0, accepted or not. The call uses the rows as they stand and does
- * not rebuild them. On the sheets that desk_read accepts, desk_to_polynomial returns the remainder.
- * Writes nothing.
+ * not rebuild them. On the sheets that desk_read accepts, desk_to_polynomial turns the result into
+ * that remainder. Writes nothing.
  * Refusals in order: the shape.
  */
 desk_value desk_to_normal(const uint8_t *sheet, size_t length, uint64_t element);

@@ -1,5 +1,6 @@
 //! Elements that arrive as words of 64 bits, and stand for their remainders
-//! modulo f: each call that takes them, beside plain's.
+//! modulo f: each call that takes them, beside plain's; and the trace of
+//! elements, which stands beside that of words.
 
 use crate::calls::list_pair;
 use crate::inputs::{Inputs, F, OPERANDS, SHEETS};

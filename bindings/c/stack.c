@@ -104,8 +104,11 @@ static void measure(int call) {
     size_t one = used(call, 0xa5), other = used(call, 0x5a);
     size_t most = one > other ? one : other;
     if (calls[call].most < most) calls[call].most = most;
-    if (number == 0) calls[call].done++;
-    else calls[call].refused++;
+    if (number == 0) {
+        calls[call].done++;
+    } else {
+        calls[call].refused++;
+    }
 }
 
 /* Operands in pairs: elements, and words that are none and come unreduced. */
@@ -160,7 +163,11 @@ static void measure_heads(int degree) {
 }
 
 /* Both ways of a list of so many values. */
-static void measure_lists(size_t values) { count = values; measure(LIST_TO_POLYNOMIAL); measure(LIST_TO_NORMAL); }
+static void measure_lists(size_t values) {
+    count = values;
+    measure(LIST_TO_POLYNOMIAL);
+    measure(LIST_TO_NORMAL);
+}
 
 /* The calls on the sheet of f and a normal element; lists have the most values, and few. */
 static void measure_sheet(int degree, uint64_t element) {
@@ -292,6 +299,7 @@ int main(void) {
         next_accepted();
         measure_field(degree);
     }
+    /* A degree out of range: all that multiply and square refuse. */
     f = (uint64_t)2 << LIMIT;
     measure_numbers(LIMIT);
     measure_words();

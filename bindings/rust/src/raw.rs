@@ -153,7 +153,7 @@ pub fn square(f: u64, a: u64) -> Value {
     unsafe { desk_square(f, a) }
 }
 
-/// `desk_trace`: the sum of the conjugates of a, any number.
+/// `desk_trace`: the sum of the conjugates of a, which is any number.
 pub fn trace(f: u64, a: u64) -> Value {
     // SAFETY: only numbers go over, and every number is a legal argument.
     unsafe { desk_trace(f, a) }
@@ -185,7 +185,7 @@ pub fn to_polynomial(sheet: &[u8], coordinates: u64) -> Value {
     unsafe { desk_to_polynomial(sheet.as_ptr(), sheet.len(), coordinates) }
 }
 
-/// `desk_to_normal`: the normal coordinates of an element, any number.
+/// `desk_to_normal`: the normal coordinates of an element, which is any number.
 pub fn to_normal(sheet: &[u8], element: u64) -> Value {
     // SAFETY: as in `read`.
     unsafe { desk_to_normal(sheet.as_ptr(), sheet.len(), element) }

@@ -9,9 +9,9 @@ use std::fmt;
 /// The sheet of one normal basis.
 ///
 /// It holds only bytes that [`build`](crate::build) writes, so converting and
-/// converting back returns the value, or the remainder of an element that came
-/// unreduced, multiplying through the sheet is multiplication modulo f, and a
-/// quotient times its divisor is the dividend.
+/// converting back returns the value (of an unreduced element, its remainder),
+/// multiplying through the sheet is multiplication modulo f, and a quotient times
+/// its divisor is the dividend.
 ///
 /// ```
 /// use sabrentuglio::Sheet;
