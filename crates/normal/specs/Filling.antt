@@ -1,7 +1,7 @@
 -- Matrices inside a computation: padding changes neither rows nor sums of rows; the rows of a linear function (`padded-linear`); and how a
 -- loop fills a matrix row by row.
 --
---   Filled m i g   the entries of m below i are those of g, and the rest 0
+--   FilledOf k m i g   of the k entries of m those below i are those of g, and the rest 0; `Filled m i g`: of a matrix
 --
 -- Assumes nothing.
 use mathlib.Core.Path.{_≡_, sym, ap, _∙_}
@@ -75,16 +75,19 @@ padded-inverse rows inv n s =
 
 -- ---- filling
 
-pub record Filled (m : List ℕ) (i : ℕ) (g : ℕ → ℕ) : Type 0 where
-  pub size : length m ≡ limit
+pub record FilledOf (k : ℕ) (m : List ℕ) (i : ℕ) (g : ℕ → ℕ) : Type 0 where
+  pub size : length m ≡ k
   pub done : (j : ℕ) → j < i → getD m j 0 ≡ g j
   pub rest : (j : ℕ) → i ≤ j → getD m j 0 ≡ 0
 
-pub filled-start : (g : ℕ → ℕ) → Filled (replicate limit 0) 0 g
-filled-start g =
-    record { size = length-replicate {A = ℕ} limit 0; done = λ j h. absurd (omega arith); rest = λ j h. zeros-at limit j }
+abbrev pub Filled : (m : List ℕ) (i : ℕ) (g : ℕ → ℕ) → Type 0
+Filled m i g = FilledOf limit m i g
 
-pub filled-turn : (m : List ℕ) (i x : ℕ) (g : ℕ → ℕ) → i < limit → x ≡ g i → Filled m i g → Filled (set m i x) (i + 1) g
+pub filled-start : {k : ℕ} (g : ℕ → ℕ) → FilledOf k (replicate k 0) 0 g
+filled-start {k} g =
+    record { size = length-replicate {A = ℕ} k 0; done = λ j h. absurd (omega arith); rest = λ j h. zeros-at k j }
+
+pub filled-turn : {k : ℕ} (m : List ℕ) (i x : ℕ) (g : ℕ → ℕ) → i < k → x ≡ g i → FilledOf k m i g → FilledOf k (set m i x) (i + 1) g
 filled-turn m i x g h e s =
     record {
       size = length-set m i x ∙ s .size;
@@ -102,3 +105,9 @@ filled-padded m n g h s =
     (λ (l : i < n). s .done i l ∙ sym (listed-at n g i l))
     (λ (l : n ≤ i). s .rest i l ∙ sym (List·getD-eq-default (listed n g) 0 (rw listed-length l)))
     (order i n))
+
+-- all entries
+pub filled-listed : {k : ℕ} (m : List ℕ) (i : ℕ) (g : ℕ → ℕ) → k ≤ i → FilledOf k m i g → m ≡ listed k g
+filled-listed {k} m i g h s =
+    ext-getD 0 m (listed k g) (s .size ∙ sym (listed-length k g))
+    (λ j l. let u : j < k = omega (arith, s .size) in s .done j (omega arith) ∙ sym (listed-at k g j u))

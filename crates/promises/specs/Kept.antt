@@ -18,7 +18,7 @@ use Rattle.gf2.specs.Numbers.{order}
 use Rattle.gf2.specs.Remainder.{rem-small}
 use Rattle.gf2.specs.Truth.{bool-cases, or-false}
 use Rattle.refusals.specs.Answers.{refusalAt, answerOf, left, valueOf, checkedOf}
-use Rattle.refusals.specs.Orders.{first-applies, first-passes, part-refused, part-clear, parts-clear}
+use Rattle.refusals.specs.Orders.{first-applies, first-passes, part-refused, part-clear}
 use Rattle.refusals.specs.Verdicts.{Rule, Verdict, clear, refuse, firstOf}
 use Rattle.refusals.specs.declared.answer.Checked.{Checked}
 use Rattle.refusals.specs.declared.answer.Value.{Value}
@@ -142,28 +142,27 @@ module _ (f a : ℕ) where
 -- ---- on a sheet
 
 module _ (sheet : List ℕ) where
+  own-coordinates : (y : ℕ) → y < 2 ^ recordCount sheet → toNormal sheet y ≡ comb (inverseRowsIn sheet) y
+  unfolding toNormal elementIn
+  own-coordinates y h = ap (comb (inverseRowsIn sheet)) (rem-small (polynomialIn sheet) (recordCount sheet) y h)
+
   -- by the shape's verdict: nothing is asked after it any more
-  shape-refused : (word y k p : ℕ) → firstOf (shapeOrder sheet) ≡ refuse k p → normalAnswer sheet word ≡ normalBefore sheet y
+  shape-refused : (y k p : ℕ) → firstOf (shapeOrder sheet) ≡ refuse k p → normalAnswer sheet y ≡ normalBefore sheet y
   unfolding normalAnswer normalBefore
-  shape-refused word y k p e = rw (e, part-refused (shapeOrder sheet) (elementOrder (recordCount sheet) (y ∷ [])) k p e) (refused-same k p _ _)
+  shape-refused y k p e = rw (e, part-refused (shapeOrder sheet) (elementOrder (recordCount sheet) (y ∷ [])) k p e) (refused-same k p _ _)
 
-  module _ (shape : firstOf (shapeOrder sheet) ≡ clear) where
-    own-coordinates : (y : ℕ) → y < 2 ^ recordCount sheet → toNormal sheet y ≡ comb (inverseRowsIn sheet) y
-    unfolding toNormal elementIn
-    own-coordinates y h = ap (comb (inverseRowsIn sheet)) (rem-small (polynomialIn sheet) (recordCount sheet) y h)
-
-    shape-kept : (y : ℕ) → y < 2 ^ recordCount sheet → normalAnswer sheet y ≡ normalBefore sheet y
-    unfolding normalAnswer normalBefore
-    shape-kept y h =
-        ap₂ valueOf
-        (shape ∙ sym (part-clear (shapeOrder sheet) (elementOrder (recordCount sheet) (y ∷ [])) shape ∙ element-clear (recordCount sheet) (y ∷ []) (value-small (recordCount sheet) y h)))
-        (own-coordinates y h)
+  shape-kept : firstOf (shapeOrder sheet) ≡ clear → (y : ℕ) → y < 2 ^ recordCount sheet → normalAnswer sheet y ≡ normalBefore sheet y
+  unfolding normalAnswer normalBefore
+  shape-kept shape y h =
+      ap₂ valueOf
+      (shape ∙ sym (part-clear (shapeOrder sheet) (elementOrder (recordCount sheet) (y ∷ [])) shape ∙ element-clear (recordCount sheet) (y ∷ []) (value-small (recordCount sheet) y h)))
+      (own-coordinates y h)
 
   pub normal-kept : (y : ℕ) → y < 2 ^ recordCount sheet → normalAnswer sheet y ≡ normalBefore sheet y
   normal-kept y h =
       ⊎-elim
       (λ (e : firstOf (shapeOrder sheet) ≡ clear). shape-kept e y h)
-      (λ (r : (k p : ℕ) × (firstOf (shapeOrder sheet) ≡ refuse k p)). shape-refused y y (r .0) (r .1) (r .2))
+      (λ (r : (k p : ℕ) × (firstOf (shapeOrder sheet) ≡ refuse k p)). shape-refused y (r .0) (r .1) (r .2))
       (verdict-cases (firstOf (shapeOrder sheet)))
 
   value-four : (y : ℕ) → firstOf (valueOrder sheet (y ∷ [])) ≡ refuse 4 0 → normalBefore sheet y ≡ value.Refused (refusalAt 4 0)
@@ -179,7 +178,7 @@ module _ (sheet : List ℕ) where
       (λ (h : 2 ^ recordCount sheet ≤ y).
       inr (value-four y (part-clear (shapeOrder sheet) (elementOrder (recordCount sheet) (y ∷ [])) e ∙ element-large (recordCount sheet) (y ∷ []) (rw (large-enough (recordCount sheet) y h) refl))))
       (order y (2 ^ recordCount sheet)))
-      (λ (r : (k p : ℕ) × (firstOf (shapeOrder sheet) ≡ refuse k p)). inl (shape-refused y y (r .0) (r .1) (r .2)))
+      (λ (r : (k p : ℕ) × (firstOf (shapeOrder sheet) ≡ refuse k p)). inl (shape-refused y (r .0) (r .1) (r .2)))
       (verdict-cases (firstOf (shapeOrder sheet)))
 
 -- ---- lists on a sheet: what is answered, and what the lent list then holds
@@ -205,8 +204,7 @@ module _ (sheet from into : List ℕ) where
   unfolding normalListAnswer normalListAnswerBefore normalList normalListBefore left
   list-elements e c small =
       let f = sym (ap firstOf (coordinates-order sheet from (length into))) ∙ part-clear (listOrder sheet (length from) (length into)) fours e ∙ c in
-      let shape = parts-clear (shapeOrder sheet) _ e .0 in
-      (rw (e, f) refl, rw (e, f) (map-agree (toNormal sheet) (comb (inverseRowsIn sheet)) from (λ i h. own-coordinates sheet shape (getD from i 0) (small i h))))
+      (rw (e, f) refl, rw (e, f) (map-agree (toNormal sheet) (comb (inverseRowsIn sheet)) from (λ i h. own-coordinates sheet (getD from i 0) (small i h))))
 
   list-four : (i : ℕ) → firstOf (polynomialListOrder sheet from (length into)) ≡ refuse 4 i → normalListAnswerBefore sheet from (length into) ≡ checked.Refused (refusalAt 4 i)
   unfolding normalListAnswerBefore answerOf

@@ -6,17 +6,15 @@
 -- In order: it is linear, so the byte sums of these rows give it for every word (`words-pick`); turns of the loop that makes the rows; a word
 -- on a sheet of good shape, and a list of them.
 -- Assumes nothing.
-use mathlib.Core.Path.{_≡_, refl, sym, ap, ap₂, _∙_}
-use mathlib.Core.Logic.{⊎-elim}
-use mathlib.Core.List.{List, [], _∷_, map, map-map}
-use Prim.Native.Nat.{ℕ, _+_, _*_, _^_, _<_, _≤_}
+use mathlib.Core.Path.{_≡_, sym, ap, _∙_}
+use mathlib.Core.List.{List, map, map-map}
+use Prim.Native.Nat.{ℕ, _+_, _*_, _^_, _<_}
 use native.Mathlib.Omega.{arith}
-use lib.ListN.{length, getD, set, replicate, length-replicate, length-set}
+use lib.ListN.{getD}
 use lib.Pow.{pow-mono}
-use lib.Seq.{ext-getD, getD-set-same, getD-set-other}
 use Rattle.gf2.specs.Poly.{rem, mulMod, Degree}
 use Rattle.gf2.specs.Limit.{limit}
-use Rattle.gf2.specs.Numbers.{order, pow-next}
+use Rattle.gf2.specs.Numbers.{pow-next}
 use Rattle.gf2.specs.Remainder.{rem-⊕, rem-lt}
 use Rattle.field.specs.Accepted.{InRange}
 use Rattle.field.specs.Ring.{mulMod-comm, mulMod-x}
@@ -25,13 +23,13 @@ use Rattle.rows.specs.Linear.{Linear, linear-ext}
 use Rattle.rows.specs.Sums.{comb-⊕, comb-power}
 use Rattle.rows.specs.ByteSums.{wordBytes, byteSums, pickedBytes, bytes-pick}
 use Rattle.normal.specs.Normal.{listed, padded}
-use Rattle.normal.specs.Coordinates.{listed-at, listed-length}
+use Rattle.normal.specs.Coordinates.{listed-at}
 use Rattle.normal.specs.Filling.{padded-comb}
 use Rattle.sheet.specs.Record.{recordCount, polynomialIn, inverseRowsIn}
 use Rattle.sheet.specs.Orders.{Small, Shaped}
 use Rattle.sheet.specs.Answers.{elementIn, toNormal}
 use Rattle.sheet.specs.Clear.{polynomial-degree}
-use Rattle.sheet.specs.Lists.{map-below}
+use Rattle.sheet.specs.Lists.{map-below, map-agree}
 
 unfoldable pub inNormal : (f n : ℕ) (rows : List ℕ) (word : ℕ) → ℕ
 inNormal f n rows word = comb rows (rem f n word)
@@ -61,36 +59,11 @@ module _ (f n : ℕ) (deg : Degree f n) (rows : List ℕ) where
   pub words-pick : {sums : List ℕ} → sums ≡ byteSums wordBytes (wordRows f n rows) → (word : ℕ) → word < 2 ^ wordBits
       → pickedBytes wordBytes sums word ≡ inNormal f n rows word
   words-pick e word h = rw e (bytes-pick wordBytes (wordRows f n rows) word h ∙ rows-pick word h)
-
   -- ---- the loop that makes the rows: y is x ^ i modulo f
 
-  pub power-turn : (i y z : ℕ) → y ≡ rem f n (2 ^ i) → z ≡ mulMod f n y 2 → z ≡ rem f n (2 ^ (i + 1))
-  power-turn i y z e m =
-      m ∙ mulMod-comm f n deg y 2 ∙ ap (mulMod f n 2) e ∙ mulMod-x f n deg (2 ^ i) ∙ ap (rem f n) (sym (pow-next i))
-
--- the rows below i stand in their places
-pub record Begun (words : List ℕ) (i : ℕ) (g : ℕ → ℕ) : Type 0 where
-  pub size : length words ≡ wordBits
-  pub done : (j : ℕ) → j < i → getD words j 0 ≡ g j
-
-module _ (g : ℕ → ℕ) where
-  pub begun-start : Begun (replicate wordBits 0) 0 g
-  begun-start = record { size = length-replicate {A = ℕ} wordBits 0; done = λ j h. absurd (omega arith) }
-
-  pub begun-turn : (words : List ℕ) (i x : ℕ) → i < wordBits → x ≡ g i → Begun words i g → Begun (set words i x) (i + 1) g
-  begun-turn words i x h e s =
-      record {
-        size = length-set words i x ∙ s .size;
-        done = λ j l. ⊎-elim
-            (λ (u : j < i). getD-set-other words i j x 0 (λ p. omega arith) ∙ s .done j u)
-            (λ (u : i ≤ j). let p : j ≡ i = omega arith in rw p (getD-set-same words i x 0 (omega (arith, s .size)) ∙ e))
-            (order j i);
-      }
-
-  pub begun-end : (words : List ℕ) (i : ℕ) → wordBits ≤ i → Begun words i g → words ≡ listed wordBits g
-  begun-end words i h s =
-      ext-getD 0 words (listed wordBits g) (s .size ∙ sym (listed-length wordBits g))
-      (λ j l. let k : j < wordBits = omega (arith, s .size) in s .done j (omega arith) ∙ sym (listed-at wordBits g j k))
+pub power-turn : (f n : ℕ) → Degree f n → (i y z : ℕ) → y ≡ rem f n (2 ^ i) → z ≡ mulMod f n y 2 → z ≡ rem f n (2 ^ (i + 1))
+power-turn f n deg i y z e m =
+    m ∙ mulMod-comm f n deg y 2 ∙ ap (mulMod f n 2) e ∙ mulMod-x f n deg (2 ^ i) ∙ ap (rem f n) (sym (pow-next i))
 
 -- ---- a list that is reduced first, and then converted
 
@@ -121,6 +94,5 @@ loaded-word sheet e word = rw e (padded-comb (inverseRowsIn sheet) (rem (polynom
 
 pub loaded-words : (sheet : List ℕ) {loaded : List ℕ} → loaded ≡ padded (inverseRowsIn sheet) → (words : List ℕ)
     → map (inNormal (polynomialIn sheet) (recordCount sheet) loaded) words ≡ map (toNormal sheet) words
-loaded-words sheet e [] = refl
-loaded-words sheet e (w ∷ ws) =
-    ap₂ {C = List ℕ} (λ (x : ℕ) (l : List ℕ). x ∷ l) (loaded-word sheet e w) (loaded-words sheet e ws)
+loaded-words sheet {loaded} e words =
+    map-agree (inNormal (polynomialIn sheet) (recordCount sheet) loaded) (toNormal sheet) words (λ i h. loaded-word sheet e (getD words i 0))

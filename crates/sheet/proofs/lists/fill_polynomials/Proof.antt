@@ -1,7 +1,7 @@
 -- `sheet::lists::fill_polynomials` meets its contract: the rows that were loaded convert as the sheet's own.
 -- Assumes nothing.
-use mathlib.Core.Path.{_≡_, refl, ap, ap₂, _∙_}
-use mathlib.Core.List.{List, [], _∷_, map}
+use mathlib.Core.Path.{_≡_, ap, _∙_}
+use mathlib.Core.List.{List, map}
 use Prim.Native.Nat.{ℕ, _^_, _<_}
 use native.Mathlib.Omega.{arith}
 use borrow.Author.Needs.{needs}
@@ -13,14 +13,14 @@ use Rattle.normal.specs.Normal.{padded}
 use Rattle.normal.specs.Filling.{padded-comb}
 use Rattle.sheet.specs.Record.{conjugateRowsIn}
 use Rattle.sheet.specs.Answers.{toPolynomial}
+use Rattle.sheet.specs.Lists.{map-agree}
 use Rattle.sheet.proofs.lists.fill_polynomials.Statement.{statement}
 use Rattle.sheet.proofs.lists.fill_polynomials.Tie as tie
 
 map-loaded : (sheet : List ℕ) {loaded : List ℕ} → loaded ≡ padded (conjugateRowsIn sheet) → (values : List ℕ) → map (comb loaded) values ≡ map (toPolynomial sheet) values
 unfolding toPolynomial
-map-loaded sheet e [] = refl
-map-loaded sheet e (v ∷ vs) =
-    ap₂ {C = List ℕ} (λ (x : ℕ) (l : List ℕ). x ∷ l) (rw e (padded-comb (conjugateRowsIn sheet) v)) (map-loaded sheet e vs)
+map-loaded sheet {loaded} e values =
+    map-agree (comb loaded) (toPolynomial sheet) values (λ i h. rw e (padded-comb (conjugateRowsIn sheet) (getD values i 0)))
 
 -- the values that were copied are small as those that came
 copied-small : {copied from : List ℕ} → copied ≡ from → ((i : ℕ) → i < length from → getD from i 0 < 2 ^ limit) → (i : ℕ) → i < length copied → getD copied i 0 < 2 ^ limit

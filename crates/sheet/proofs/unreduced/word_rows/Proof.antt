@@ -10,7 +10,8 @@ use Rattle.gf2.specs.Remainder.{rem-small, rem-element}
 use Rattle.field.specs.Accepted.{InRange}
 use Rattle.field.specs.Ring.{one-lt}
 use Rattle.rows.specs.Rows.{comb}
-use Rattle.sheet.specs.Unreduced.{inNormal, wordBits, wordRows, power-turn, Begun, begun-start, begun-turn, begun-end}
+use Rattle.normal.specs.Filling.{FilledOf, filled-start, filled-turn, filled-listed}
+use Rattle.sheet.specs.Unreduced.{inNormal, wordBits, wordRows, power-turn}
 use Rattle.sheet.proofs.unreduced.word_rows.Statement.{statement}
 use Rattle.sheet.proofs.unreduced.word_rows.Tie as tie
 
@@ -19,7 +20,7 @@ abbrev row : (f n : ℕ) (rows : List ℕ) → ℕ → ℕ
 row f n rows i = inNormal f n rows (2 ^ i)
 
 abbrev Inv-loop : tie.InvT-loop
-Inv-loop rows f n words₀ y₀ i₀ words y i = (i ≤ wordBits) × Begun words i (row f n rows) × (y ≡ rem f n (2 ^ i))
+Inv-loop rows f n words₀ y₀ i₀ words y i = (i ≤ wordBits) × FilledOf wordBits words i (row f n rows) × (y ≡ rem f n (2 ^ i))
 
 abbrev μ-loop : tie.MeasureT-loop
 μ-loop rows f n words₀ y₀ i₀ words y i = wordBits - i
@@ -36,13 +37,13 @@ made : (f n i x y : ℕ) (rows : List ℕ) → x ≡ comb rows y → y ≡ rem f
 unfolding inNormal
 made f n i x y rows p q = p ∙ ap (comb rows) q
 
-done : (f n i : ℕ) (rows words : List ℕ) → wordBits ≤ i → Begun words i (row f n rows) → words ≡ wordRows f n rows
+done : (f n i : ℕ) (rows words : List ℕ) → wordBits ≤ i → FilledOf wordBits words i (row f n rows) → words ≡ wordRows f n rows
 unfolding wordRows
-done f n i rows words h s = begun-end (row f n rows) words i h s
+done f n i rows words h s = filled-listed words i (row f n rows) h s
 
 loop-holds : tie.Need-loop-holds Inv-loop μ-loop
 loop-holds c =
-    (omega arith, begun-start (row (c .args .f) (c .args .n) (c .args .rows .now)), start (c .args .f) (c .args .n) (c .pre))
+    (omega arith, filled-start (row (c .args .f) (c .args .n) (c .args .rows .now)), start (c .args .f) (c .args .n) (c .pre))
 
 word-row-requires : tie.Need-word-row-requires Inv-loop μ-loop
 word-row-requires c κs =
@@ -80,8 +81,8 @@ loop-again c =
     let i = l .loop .i in
     let e = l .loop .inv .2 in (
       omega arith,
-      begun-turn (row f n rows) (l .loop .words) i (w .word-row .result) (omega arith) (made f n i (w .word-row .result) (l .loop .y) rows (w .word-row .ensures) e) (l .loop .inv .1),
-      power-turn f n (s .pre .is-degree) rows i (l .loop .y) (c .multiply-by-x .result) e (c .multiply-by-x .ensures),
+      filled-turn (l .loop .words) i (w .word-row .result) (row f n rows) (omega arith) (made f n i (w .word-row .result) (l .loop .y) rows (w .word-row .ensures) e) (l .loop .inv .1),
+      power-turn f n (s .pre .is-degree) i (l .loop .y) (c .multiply-by-x .result) e (c .multiply-by-x .ensures),
     )
 
 returns : tie.Need-returns Inv-loop μ-loop
