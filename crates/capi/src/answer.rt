@@ -16,7 +16,7 @@ use words::Word;
 
 // The answer of a call that has one value, or none: then the value is 0.
 #[repr(C)]
-#[derive(Drop)]
+#[derive(Clone, Copy)]
 pub struct DeskValue {
     pub number: u64,
     pub place: u64,
@@ -25,7 +25,7 @@ pub struct DeskValue {
 
 // The answer of build and of reading.
 #[repr(C)]
-#[derive(Drop)]
+#[derive(Clone, Copy)]
 pub struct DeskIssued {
     pub number: u64,
     pub place: u64,
@@ -36,7 +36,7 @@ pub struct DeskIssued {
 
 // The answer of the search: found is 1 where something is found, else 0.
 #[repr(C)]
-#[derive(Drop)]
+#[derive(Clone, Copy)]
 pub struct DeskFound {
     pub number: u64,
     pub found: u64,
@@ -49,7 +49,7 @@ pub struct DeskFound {
 // Why reading refuses a sheet: the number that lies behind 2, 3 or 5, or for 10 the field that differs, the number stored there and the
 // right one. What a refusal does not have is 0.
 #[repr(C)]
-#[derive(Drop)]
+#[derive(Clone, Copy)]
 pub struct DeskCause {
     pub number: u64,
     pub place: u64,
@@ -61,7 +61,7 @@ pub struct DeskCause {
 
 // What a word means: clear is 1 and the value its number, or both are 0.
 #[repr(C)]
-#[derive(Drop)]
+#[derive(Clone, Copy)]
 pub struct DeskWord {
     pub clear: u64,
     pub value: u64,

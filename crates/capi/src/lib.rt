@@ -1,5 +1,7 @@
 // The calls of the desk for C and Rust: each hands its arguments to the library's call of that name, and its answer out as numbers. Two
 // more say what a typed word means.
+#![tactic(auto)]
+
 mod answer;
 mod calls;
 mod typed;

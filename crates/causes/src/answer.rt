@@ -5,7 +5,7 @@ ghost use Rattle.causes.specs.Causes.{field_number};
 use refusals::Refusal;
 
 // The rows of a record, in byte order.
-#[derive(Drop)]
+#[derive(Clone, Copy)]
 pub enum Field {
     Conjugate,
     Inverse,
@@ -25,7 +25,7 @@ pub fn field_number(field: Field) -> u64
 
 // How a record differs from the one rebuilt: its place in the sheet, the first field in byte order that differs, the number stored there
 // and the right one.
-#[derive(Drop)]
+#[derive(Clone, Copy)]
 pub struct Difference {
     pub place: usize,
     pub field: Field,
@@ -33,7 +33,7 @@ pub struct Difference {
     pub right: u64,
 }
 
-#[derive(Drop)]
+#[derive(Clone, Copy)]
 pub enum Cause {
     // Nothing is refused.
     Accepted,

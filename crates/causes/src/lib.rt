@@ -1,4 +1,6 @@
 // Why reading, check and build refuse (document 02, §5).
+#![tactic(auto)]
+
 mod answer;
 mod behind;
 mod calls;

@@ -125,7 +125,7 @@ fn ending_of(goal: Notation, stop: Stop, line: u64, word: &[u8]) -> Ending {
 }
 
 // One list: where the reader stands after it, how the command ends if it is the last, and whether it is.
-#[derive(Drop)]
+#[derive(Clone, Copy)]
 struct Part {
     cursor: Cursor,
     ending: Ending,

@@ -1,7 +1,7 @@
 // The commands, and the word that names each.
 use check::same;
 
-#[derive(Drop)]
+#[derive(Clone, Copy)]
 pub(crate) enum Command {
     Check,
     Multiply,

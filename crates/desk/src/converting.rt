@@ -17,7 +17,7 @@ use streams::{Ending, done_if};
 use words::Word;
 
 // The notation that values are carried to.
-#[derive(Drop)]
+#[derive(Clone, Copy)]
 pub(crate) enum Notation {
     Normal,
     Polynomial,

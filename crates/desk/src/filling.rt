@@ -7,7 +7,7 @@ use super::lines::{CHUNK, Cursor, Kind, next_line};
 use words::Word;
 
 // Why a list has no more values: it is full, or the next line would have to be waited for; the input has ended; the last line is no value; it is too long; a read failed.
-#[derive(Drop)]
+#[derive(Clone, Copy)]
 pub(crate) enum Stop {
     Full,
     End,
@@ -17,7 +17,7 @@ pub(crate) enum Stop {
 }
 
 // A list of values: how many there are, where the reader then stands, how long the last line's word is, and why there are no more.
-#[derive(Drop)]
+#[derive(Clone, Copy)]
 pub(crate) struct Filled {
     pub(crate) count: usize,
     pub(crate) cursor: Cursor,
@@ -26,7 +26,7 @@ pub(crate) struct Filled {
 }
 
 // What a line gives: a value, or the reason that there is none.
-#[derive(Drop)]
+#[derive(Clone, Copy)]
 enum Taken {
     Value(u64),
     Nothing(Stop),

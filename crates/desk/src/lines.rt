@@ -10,7 +10,7 @@ pub(crate) const CHUNK: usize = 65536;
 pub(crate) const NEWLINE: u8 = 10;
 
 // Where the reader stands: the place of the next byte in the chunk, the bytes that the chunk has, and the number of the last line read.
-#[derive(Drop)]
+#[derive(Clone, Copy)]
 pub(crate) struct Cursor {
     pub(crate) at: usize,
     pub(crate) size: usize,
@@ -18,7 +18,7 @@ pub(crate) struct Cursor {
 }
 
 // What the next line is: a word; one too long for its room; none, at the end of the input; none, since a read failed.
-#[derive(Drop)]
+#[derive(Clone, Copy)]
 pub(crate) enum Kind {
     Whole,
     Long,
@@ -27,7 +27,7 @@ pub(crate) enum Kind {
 }
 
 // The next line, its length and where the reader then stands.
-#[derive(Drop)]
+#[derive(Clone, Copy)]
 pub(crate) struct Line {
     pub(crate) cursor: Cursor,
     pub(crate) size: usize,
@@ -35,7 +35,7 @@ pub(crate) struct Line {
 }
 
 // A chunk with a byte to take at a place below its end; no byte if the input has ended or a read failed.
-#[derive(Drop)]
+#[derive(Clone, Copy)]
 struct Ready {
     at: usize,
     end: usize,

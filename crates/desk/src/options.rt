@@ -18,7 +18,7 @@ pub(crate) fn places_space() -> [usize; WORDS_ROOM]
 }
 
 // What a word of the command line is.
-#[derive(Drop)]
+#[derive(Clone, Copy)]
 pub(crate) enum Mark {
     Word,
     Hex,
@@ -32,7 +32,7 @@ pub(crate) enum Mark {
 // What the command line has: how many words, one more than there is room for if there are more; whether it asks for hexadecimal, the
 // help page or the version. Then places, 0 for none: of the files after --to and --from, of an option that its file is to follow, and
 // of one that cannot be used.
-#[derive(Drop)]
+#[derive(Clone, Copy)]
 pub(crate) struct Given {
     pub(crate) words: usize,
     pub(crate) hex: bool,

@@ -4,7 +4,7 @@ use streams::{write_output, write_whole};
 
 // The descriptor that answers are written to; the place of the file's name on the command line, 0 for standard output, and the mark of
 // the new file beside it; whether values are written in hexadecimal.
-#[derive(Drop)]
+#[derive(Clone, Copy)]
 pub(crate) struct Output {
     pub(crate) descriptor: i32,
     pub(crate) place: usize,

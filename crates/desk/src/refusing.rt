@@ -12,7 +12,7 @@ use words::Word;
 pub(crate) const TOO_LARGE: u8 = 4;
 
 // Who is told what a refusal means: standard error, or whoever asked for it as an answer.
-#[derive(Drop)]
+#[derive(Clone, Copy)]
 pub(crate) enum Listener {
     Errors,
     Answer(Output),

@@ -18,7 +18,7 @@ use words::Word;
 const SHEET_ROOM: usize = RECORD * LIMIT;
 
 // What is done with a sheet that was built.
-#[derive(Drop)]
+#[derive(Clone, Copy)]
 enum Purpose {
     Bytes,
     Listing,
@@ -80,7 +80,7 @@ pub(crate) fn show(places: &[usize; WORDS_ROOM], given: Given, output: Output) -
 }
 
 // What is told of a sheet that was read.
-#[derive(Drop)]
+#[derive(Clone, Copy)]
 enum Telling {
     Listing,
     Verdict,
@@ -149,7 +149,7 @@ pub(crate) fn matrices(places: &[usize; WORDS_ROOM], given: Given, output: Outpu
 }
 
 // What is worked out of normal coordinates.
-#[derive(Drop)]
+#[derive(Clone, Copy)]
 enum Operation {
     Product(u64, u64),
     Inverse(u64),

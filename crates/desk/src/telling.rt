@@ -35,7 +35,7 @@ pub(crate) fn refuse_words_for(
 }
 
 // The polynomial and the element that a sheet names.
-#[derive(Drop)]
+#[derive(Clone, Copy)]
 struct Named {
     f: u64,
     element: u64,

@@ -7,7 +7,7 @@ ghost use Rattle.divisors.specs.Level.{Level};
 use gf2::{greatest_common, multiply};
 
 // A polynomial all of whose irreducible divisors have one degree, and that degree.
-#[derive(Drop)]
+#[derive(Clone, Copy)]
 pub struct Part {
     pub value: u64,
     pub degree: u32,

@@ -13,7 +13,7 @@ use normal::{build_basis, complexity_of};
 use rows::{BYTE_SUMS, sum_by_bytes};
 
 // An element is not normal, or it is, and its table has so many ones.
-#[derive(Drop)]
+#[derive(Clone, Copy)]
 pub enum Decided {
     NotNormal,
     Normal(u32),

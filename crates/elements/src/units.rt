@@ -9,7 +9,7 @@ use field::too_large;
 use gf2::multiply;
 
 // What is known of v: nothing; r with r times v = 1; or w, which is not 0, with w times v = 0.
-#[derive(Drop)]
+#[derive(Clone, Copy)]
 pub enum Witness {
     Unknown,
     Inverse(u64),
@@ -17,7 +17,7 @@ pub enum Witness {
 }
 
 // Two polynomials of Euclid's algorithm, the first not divisible by t, and what v is multiplied by to give each.
-#[derive(Drop)]
+#[derive(Clone, Copy)]
 struct Pair {
     first: u64,
     first_by: u64,

@@ -9,7 +9,7 @@ use gf2::multiply_by_x;
 use rows::power;
 
 // A polynomial of degree below 2n: low + high x^n.
-#[derive(Drop)]
+#[derive(Clone, Copy)]
 pub struct Wide {
     pub low: u64,
     pub high: u64,

@@ -41,7 +41,7 @@ pub fn squared_times(table: &[u16; 256], f: u64, n: u32, k: u32, a: u64) -> u64
 }
 
 // Whether f is divided; and what x has become half way through its n squarings, or 0 where f is divided.
-#[derive(Drop)]
+#[derive(Clone, Copy)]
 struct Halfway {
     pub divided: bool,
     pub conjugate: u64,

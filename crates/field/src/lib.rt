@@ -1,4 +1,6 @@
 // The field that a polynomial defines: what makes it accepted, powers of its elements, and the calls check, multiply, square and trace.
+#![tactic(auto)]
+
 mod accepted;
 mod calls;
 mod judging;

@@ -1,4 +1,6 @@
 // Polynomials over the two-element field as numbers: bit i is the coefficient of x^i.
+#![tactic(auto)]
+
 mod degree;
 mod division;
 mod euclid;

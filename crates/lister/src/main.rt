@@ -1,5 +1,7 @@
 // The lister (document 01, "Lister"; document 02, §5): reads a sheet from standard input and prints its listing, or its refusal and the
 // cause. One byte past 46 records is enough to tell that the input is longer, which is refusal 7.
+#![tactic(auto)]
+
 use gf2::LIMIT;
 use libc::{STDERR_FILENO, STDIN_FILENO};
 use listing::LISTING_ROOM;

@@ -1,4 +1,6 @@
 // The text of a listing (document 01, "Lister"; document 02, §5).
+#![tactic(auto)]
+
 mod cause;
 mod lines;
 mod putting;

@@ -1,4 +1,6 @@
 // The full set of matrices as text (document 02, §4): writing it from a sheet, and reading it back.
+#![tactic(auto)]
+
 mod line;
 mod reading;
 mod writing;

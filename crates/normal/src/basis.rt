@@ -11,7 +11,7 @@ use super::conjugates::conjugates_of;
 use gf2::{LIMIT, multiply};
 use rows::{invert, sum};
 
-#[derive(Drop)]
+#[derive(Clone, Copy)]
 pub struct Basis {
     pub conjugates: [u64; LIMIT],
     pub inverse: [u64; LIMIT],
@@ -20,7 +20,7 @@ pub struct Basis {
 
 // What building answers: the basis of a normal element, and 0; else zeros, and the smallest number other than 0 whose set bits
 // select conjugates that sum to zero.
-#[derive(Drop)]
+#[derive(Clone, Copy)]
 pub struct Built {
     pub normal: bool,
     pub basis: Basis,

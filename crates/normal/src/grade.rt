@@ -9,7 +9,7 @@ use field::element_power;
 use gf2::LIMIT;
 
 // The grades 0 to 3 (document 02, §3): not optimal, optimal of the first kind, of the second kind, of both.
-#[derive(Drop)]
+#[derive(Clone, Copy)]
 pub enum Grade {
     Zero,
     One,

@@ -1,5 +1,7 @@
 // What a normal basis is: conjugates, the basis of an element, its complexity and grade, and products, powers and inverses
 // of coordinates.
+#![tactic(auto)]
+
 mod basis;
 mod by_bytes;
 mod conjugates;

@@ -1,1 +1,2 @@
 // The demands on the desk, as theorems over the promises of its calls: see specs/.
+#![tactic(auto)]

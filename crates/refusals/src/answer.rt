@@ -4,21 +4,21 @@ ghost use Rattle.refusals.specs.Verdicts.{refuse};
 ghost use Rattle.refusals.specs.Answers.{checked_of};
 
 // The number of a row of the refusal table, and the place of what is refused (0 where the table names none).
-#[derive(Drop)]
+#[derive(Clone, Copy)]
 pub struct Refusal {
     pub number: u8,
     pub place: usize,
 }
 
 // The answer of a call that has one value.
-#[derive(Drop)]
+#[derive(Clone, Copy)]
 pub enum Value {
     Refused(Refusal),
     Done(u64),
 }
 
 // The answer of a call that has none. It is also what a call's order finds: a refusal, or nothing to refuse.
-#[derive(Drop)]
+#[derive(Clone, Copy)]
 pub enum Checked {
     Refused(Refusal),
     Done,

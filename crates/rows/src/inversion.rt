@@ -11,7 +11,7 @@ use gf2::{LIMIT, picked};
 
 // What inversion answers. Where the rows are independent, the inverse rows, and 0; else zeros, and the smallest number other than 0
 // whose bits pick rows that sum to zero.
-#[derive(Drop)]
+#[derive(Clone, Copy)]
 pub struct Inverted {
     pub independent: bool,
     pub inverse: [u64; LIMIT],

@@ -1,5 +1,7 @@
 // Matrices of bits, as document 01 has them: "an array of 46 numbers held by value; entries from n upward are zero". Entry i is row i,
 // and bit j of a row is its entry in column j.
+#![tactic(auto)]
+
 mod bits;
 mod by_bytes;
 mod inversion;

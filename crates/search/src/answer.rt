@@ -2,7 +2,7 @@
 use normal::Grade;
 
 // "found, with the element, its complexity, its grade and the count of normal leaders in the range"
-#[derive(Drop)]
+#[derive(Clone, Copy)]
 pub struct Best {
     pub element: u64,
     pub complexity: u32,
@@ -10,7 +10,7 @@ pub struct Best {
     pub count: u64,
 }
 
-#[derive(Drop)]
+#[derive(Clone, Copy)]
 pub enum Search {
     Refused(u8),
     Nothing,

@@ -1,4 +1,6 @@
 // The search of a range for the normal basis of least complexity (document 01, "Search").
+#![tactic(auto)]
+
 mod answer;
 mod joining;
 mod leader;

@@ -3,14 +3,14 @@ use normal::Grade;
 use refusals::Refusal;
 
 // "Build and reading answer n, complexity and grade" (document 01, "Refusal numbers").
-#[derive(Drop)]
+#[derive(Clone, Copy)]
 pub struct Summary {
     pub degree: u32,
     pub complexity: u32,
     pub grade: Grade,
 }
 
-#[derive(Drop)]
+#[derive(Clone, Copy)]
 pub enum Issued {
     Refused(Refusal),
     Done(Summary),

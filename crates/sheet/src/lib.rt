@@ -1,4 +1,6 @@
 // Sheets: records of 32 bytes, and the calls that build, read, convert, multiply and divide through them.
+#![tactic(auto)]
+
 mod answer;
 mod building;
 mod converting;

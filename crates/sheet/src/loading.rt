@@ -10,7 +10,7 @@ use gf2::LIMIT;
 use rows::{BYTE_SUMS, degree_sums};
 
 // Row i of each of the three matrices.
-#[derive(Drop)]
+#[derive(Clone, Copy)]
 pub struct Row {
     pub conjugate: u64,
     pub inverse: u64,

@@ -1,7 +1,7 @@
 // How a run ended, told to whoever started the program.
 
 // Done; refused; a word of the command line cannot be used; something could not be read or written.
-#[derive(Drop)]
+#[derive(Clone, Copy)]
 pub enum Ending {
     Done,
     Refused,

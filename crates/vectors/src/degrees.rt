@@ -62,7 +62,7 @@ const ROOM: usize = RECORD * LIMIT;
 
 // What a polynomial has beside x^n: what the builder wrote; nothing, so that x divides it; 1, so that x + 1 does; or all smaller powers of x,
 // where at most degrees something divides it.
-#[derive(Drop)]
+#[derive(Clone, Copy)]
 enum Tail {
     Built,
     Nothing,

@@ -14,6 +14,8 @@
 //   records        the bytes of a record, and sheets that lost one
 //   unreduced      words that arrive unreduced on two sheets
 //   degrees        such words at every degree, counted by remainders
+#![tactic(auto)]
+
 mod checks;
 mod complexities;
 mod conversions;

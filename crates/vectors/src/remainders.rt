@@ -11,7 +11,7 @@ const SHORT: usize = 40;
 const LONG: usize = 60;
 
 // What is asked of a word: that a call answers as for the remainder, or that the return trip gives the remainder.
-#[derive(Drop)]
+#[derive(Clone, Copy)]
 pub(crate) enum Asked {
     Product,
     Square,
@@ -21,7 +21,7 @@ pub(crate) enum Asked {
 }
 
 // What is counted on a sheet: words one by one, or the words of a list.
-#[derive(Drop)]
+#[derive(Clone, Copy)]
 pub(crate) enum Counted {
     Words(Asked),
     ShortList,

@@ -1,5 +1,5 @@
 // What a typed word means: a number, or it is unclear.
-#[derive(Drop)]
+#[derive(Clone, Copy)]
 pub enum Word {
     Unclear,
     Number(u64),

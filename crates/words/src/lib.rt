@@ -1,4 +1,6 @@
 // The numbers that a designer types on a command line.
+#![tactic(auto)]
+
 mod answer;
 mod digits;
 mod numbers;

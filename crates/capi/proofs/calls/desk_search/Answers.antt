@@ -1,0 +1,7 @@
+-- `capi::calls::desk_search` meets its contract: what the library's call promises, handed out.
+-- Assumes nothing.
+use mathlib.Core.Path.{◌∙◌}
+use Rattle.capi.proofs.calls.desk_search.Goals as goal
+
+pub returns : goal.returns
+returns c = c.found_out.ensures ∙ rw (c.search.ensures.1, c.search.ensures.0)

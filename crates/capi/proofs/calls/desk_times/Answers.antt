@@ -1,0 +1,8 @@
+-- `capi::calls::desk_times` meets its contract: what the library's call promises, handed out.
+-- Assumes nothing.
+use mathlib.Core.Path.{ap, ◌∙◌}
+use Rattle.capi.specs.Answers.{desk_value}
+use Rattle.capi.proofs.calls.desk_times.Goals as goal
+
+pub returns : goal.returns
+returns c = c.value_out.ensures ∙ ap desk_value c.times.ensures.1

@@ -1,0 +1,8 @@
+-- `capi::typed::desk_number_of` meets its contract: what the library's call promises, handed out.
+-- Assumes nothing.
+use mathlib.Core.Path.{ap, ◌∙◌}
+use Rattle.capi.specs.Answers.{desk_word}
+use Rattle.capi.proofs.typed.desk_number_of.Goals as goal
+
+pub returns : goal.returns
+returns c = c.word_out.ensures ∙ ap desk_word c.number.ensures

@@ -1,0 +1,29 @@
+use native.Mathlib.Omega.{arith}
+use Rattle.divisors.specs.Level.{level_part}
+use Rattle.divisors.specs.Peeling.{peeled_start, peeled_turn, peeled_less, peeled_done}
+use Rattle.divisors.proofs.peeling.smallest_of_level.Goals as goal
+
+pub loop-rest-init : goal.loop-rest-init
+loop-rest-init c = peeled_start c.args.g c.requires.two
+
+pub irreducible_divisor-p-requires : goal.irreducible_divisor-p-requires
+irreducible_divisor-p-requires c =
+    let pos = c.loop-rest.invariant.pos in
+    level_part c.args.i c.args.g c.requires c.loop-rest.rest (omega arith) c.loop-rest.invariant.part
+
+pub quotient-rest-requires : goal.quotient-rest-requires
+quotient-rest-requires c = (c.loop-rest.invariant.pos, c.irreducible_divisor-p.ensures.2)
+
+pub loop-rest-smaller : goal.loop-rest-smaller
+loop-rest-smaller c =
+    peeled_less c.args.g c.requires.two c.loop-rest.best c.loop-rest.rest c.irreducible_divisor-p.result c.quotient-rest.result c.loop-rest.invariant
+    c.irreducible_divisor-p.ensures.0 c.irreducible_divisor-p.ensures.1 c.quotient-rest.ensures c.loop-rest-test.true
+
+pub loop-rest-preserved : goal.loop-rest-preserved
+loop-rest-preserved c =
+    peeled_turn c.args.g c.requires.two c.loop-rest.best c.loop-rest.rest c.irreducible_divisor-p.result c.quotient-rest.result c.loop-rest.invariant
+    c.irreducible_divisor-p.ensures.0 c.irreducible_divisor-p.ensures.1 c.quotient-rest.ensures c.smaller_of-best.result c.smaller_of-best.ensures
+
+pub returns : goal.returns
+returns c =
+    peeled_done c.args.g c.requires.two c.loop-rest.best c.loop-rest.rest c.loop-rest-test.false c.loop-rest.invariant

@@ -1,0 +1,38 @@
+use mathlib.Core.Path.{◌≡◌, refl, ap, ◌∙◌}
+use Prim.Native.Nat.{ℕ, ◌+◌, ◌-◌, ◌≤◌}
+use native.Mathlib.Numerals.{add-one}
+use native.Mathlib.Omega.{arith}
+use lib.Bits.{bit_xor}
+use Rattle.gf2.specs.Poly.{◌⊕◌, mul_mod, Degree}
+use Rattle.field.specs.Field.{trace_to}
+use Rattle.field.specs.Trace.{trace_to-lt, trace_to-square}
+use Rattle.divisors.proofs.splitting.first_conjugates_sum.Goals as goal
+
+none : (g m a : ℕ) → 0 ≡ trace_to g m 0 a
+unfolding trace_to
+none g m a = refl
+
+turn : (g m k a sum s : ℕ) → Degree g m → sum ≡ trace_to g m k a → s ≡ mul_mod g m sum sum → bit_xor s a ≡ trace_to g m (k + 1) a
+unfolding trace_to ◌⊕◌
+turn g m k a sum s deg e es = rw (add-one, es, e) (trace_to-square g m deg k a)
+
+all_done : (g m k i a sum : ℕ) → k ≤ i → i ≤ k → sum ≡ trace_to g m k a → sum ≡ trace_to g m i a
+all_done g m k i a sum p q e = let s : k ≡ i = omega arith in e ∙ ap (λ (x : ℕ). trace_to g m x a) s
+
+pub loop-done-init : goal.loop-done-init
+loop-done-init c = (omega arith, none c.args.g c.args.m c.args.a)
+
+pub multiply-requires : goal.multiply-requires
+multiply-requires c =
+    record {
+      is_degree = c.requires.is_degree;
+      below = rw c.loop-done.invariant.1 (trace_to-lt c.args.g c.args.m c.requires.is_degree c.loop-done.done c.args.a c.requires.below);
+    }
+
+pub loop-done-preserved : goal.loop-done-preserved
+loop-done-preserved c =
+    (omega arith, turn c.args.g c.args.m c.loop-done.done c.args.a c.loop-done.sum c.multiply.result c.requires.is_degree c.loop-done.invariant.1 c.multiply.ensures)
+
+pub returns : goal.returns
+returns c =
+    all_done c.args.g c.args.m c.loop-done.done c.args.i c.args.a c.loop-done.sum c.loop-done.invariant.0 c.loop-done-test.false c.loop-done.invariant.1

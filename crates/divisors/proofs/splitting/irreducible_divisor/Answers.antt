@@ -1,0 +1,40 @@
+use mathlib.Core.Path.{◌≡◌}
+use Prim.Native.Nat.{ℕ, ◌≤◌}
+use native.Mathlib.Omega.{arith}
+use Rattle.gf2.specs.Poly.{degree, Degree, Divides}
+use Rattle.gf2.specs.Degrees.{degree_is}
+use Rattle.gf2.specs.Divisors.{divides_self, divides_trans}
+use Rattle.field.specs.Field.{Irreducible}
+use Rattle.divisors.specs.Level.{Level, level_part, level_irreducible}
+use Rattle.divisors.proofs.splitting.irreducible_divisor.Goals as goal
+
+module _ (i g : ℕ) (s : Level i g) (p : ℕ) (inv : (2 ≤ p) × Divides p g) (m : ℕ) (em : m ≡ degree p) where
+  deg : Degree p m
+  deg = rw em (degree_is p (omega (arith, inv.0)))
+
+  level : Level i p
+  level = level_part i g s p inv.0 inv.1
+
+  done : m ≤ i → (2 ≤ p) × Irreducible p × Divides p g
+  done l = (inv.0, level_irreducible i p level m deg l, inv.1)
+
+pub loop-p-init : goal.loop-p-init
+loop-p-init c = (c.requires.two, divides_self c.args.g)
+
+pub split-p-requires : goal.split-p-requires
+split-p-requires c = (
+  deg c.args.i c.args.g c.requires c.loop-p.p c.loop-p.invariant c.degree_of-in-loop-p.result c.degree_of-in-loop-p.ensures,
+  level c.args.i c.args.g c.requires c.loop-p.p c.loop-p.invariant c.degree_of-in-loop-p.result c.degree_of-in-loop-p.ensures,
+  omega (arith, c.loop-p-test.true, c.degree_of.ensures, c.degree_of-in-loop-p.ensures),
+)
+
+pub loop-p-smaller : goal.loop-p-smaller
+loop-p-smaller c = c.split-p.ensures.1
+
+pub loop-p-preserved : goal.loop-p-preserved
+loop-p-preserved c =
+    (c.split-p.ensures.0, divides_trans c.split-p.result c.loop-p.p c.args.g c.split-p.ensures.2 c.loop-p.invariant.1)
+
+pub returns : goal.returns
+returns c =
+    done c.args.i c.args.g c.requires c.loop-p.p c.loop-p.invariant c.degree_of.result c.degree_of.ensures c.loop-p-test.false

@@ -1,0 +1,74 @@
+use mathlib.Core.Path.{◌≡◌, sym}
+use mathlib.Core.Bool.{true, false, cond}
+use Prim.Native.Nat.{ℕ, ◌+◌, ◌-◌, ◌/◌, ◌^◌, ◌≤◌, ◌<◌}
+use native.Mathlib.Omega.{arith}
+use lib.Bits.{bit_xor}
+use lib.Pow.{pow_pos}
+use Rattle.gf2.specs.Poly.{◌⊕◌, mul_mod, Degree}
+use Rattle.gf2.specs.Euclid.{GreatestCommon}
+use Rattle.field.specs.Field.{squared}
+use Rattle.field.specs.Accepted.{divided}
+use Rattle.field.specs.Ring.{two-lt}
+use Rattle.field.specs.Frobenius.{squared_start, squared_turn, squared-lt}
+use Rattle.field.specs.CommonDivisors.{NoneTo, none-to-zero, none-to-next, divided-found, divided-none}
+use Rattle.field.proofs.accepted.squared_half.Goals as goal
+
+module _ (f n : ℕ) (deg : Degree f n) (big : 2 ≤ n) (i y : ℕ) (test : i < n / 2) (ey : y ≡ squared f n i 2) where
+  y-lt : y < 2 ^ n
+  y-lt = rw ey (squared-lt f n deg i 2 (two-lt n big))
+
+  module _ (z g : ℕ) (ez : z ≡ mul_mod f n y y) (s : GreatestCommon f (bit_xor z 2) g) where
+    next : z ≡ squared f n (i + 1) 2
+    next = squared_turn f n deg i 2 y z ey ez
+
+    common : GreatestCommon f (squared f n (i + 1) 2 ⊕ 2) g
+    unfolding ◌⊕◌
+    common = rw next at s
+
+    found : (g ≡ 1 → ⊥) → (true ≡ divided f n) × (0 ≡ cond (divided f n) 0 (squared f n (n / 2) 2))
+    found ne =
+        let e : divided f n ≡ true = divided-found f n deg big (i + 1) g (omega arith) (omega arith) common ne in
+        (sym e, rw e)
+
+    again : g ≡ 1 → NoneTo f n i → (i + 1 ≤ n / 2) × (z ≡ squared f n (i + 1) 2) × NoneTo f n (i + 1)
+    again e none = (omega arith, next, none-to-next f n deg i g (omega arith) none common e)
+
+done : (f n : ℕ) → Degree f n → 2 ≤ n → (i y : ℕ) → n / 2 ≤ i → (i ≤ n / 2) × (y ≡ squared f n i 2) × NoneTo f n i
+    → (false ≡ divided f n) × (y ≡ cond (divided f n) 0 (squared f n (n / 2) 2))
+done f n deg big i y h inv =
+    let e : divided f n ≡ false = divided-none f n deg big i h inv.2 in
+    let s : i ≡ n / 2 = omega (arith, inv.0) in
+    (sym e, rw (e, ← s) inv.1)
+
+f-pos : (f n : ℕ) → Degree f n → 0 < f
+f-pos f n deg = omega (arith, deg.low, pow_pos n)
+
+pub loop-i-init : goal.loop-i-init
+loop-i-init c =
+    (omega arith, squared_start c.args.f c.args.n 2, none-to-zero c.args.f c.args.n c.requires.1.is_degree)
+
+pub square-y-requires : goal.square-y-requires
+square-y-requires c = (
+  c.requires.0,
+  record {
+    is_degree = c.requires.1.is_degree;
+    below = y-lt c.args.f c.args.n c.requires.1.is_degree c.requires.1.two c.loop-i.i c.loop-i.y c.loop-i-test.true c.loop-i.invariant.1;
+  },
+)
+
+pub greatest_common-requires : goal.greatest_common-requires
+greatest_common-requires c = f-pos c.args.f c.args.n c.requires.1.is_degree
+
+pub returns-then-greatest_common-ne1 : goal.returns-then-greatest_common-ne1
+returns-then-greatest_common-ne1 c =
+    found c.args.f c.args.n c.requires.1.is_degree c.requires.1.two c.loop-i.i c.loop-i.y c.loop-i-test.true c.loop-i.invariant.1
+    c.square-y.result c.greatest_common.result c.square-y.ensures c.greatest_common.ensures c.if-greatest_common-ne1.true
+
+pub loop-i-preserved : goal.loop-i-preserved
+loop-i-preserved c =
+    again c.args.f c.args.n c.requires.1.is_degree c.requires.1.two c.loop-i.i c.loop-i.y c.loop-i-test.true c.loop-i.invariant.1
+    c.square-y.result c.greatest_common.result c.square-y.ensures c.greatest_common.ensures c.if-greatest_common-ne1.false c.loop-i.invariant.2
+
+pub returns : goal.returns
+returns c =
+    done c.args.f c.args.n c.requires.1.is_degree c.requires.1.two c.loop-i.i c.loop-i.y c.loop-i-test.false c.loop-i.invariant

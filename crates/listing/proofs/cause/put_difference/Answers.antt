@@ -1,0 +1,8 @@
+-- `listing::cause::put_difference` meets its contract: each number and the word after the one before.
+-- Assumes nothing.
+use Rattle.listing.specs.Lines.{difference_put}
+use Rattle.listing.proofs.cause.put_difference.Goals as goal
+
+pub returns : goal.returns
+returns c =
+    difference_put c.args.difference c.put_number-second.ensures.0 c.put_field-third.ensures.0 c.put_number-fourth.ensures.0 c.put_number.ensures.0

@@ -1,0 +1,35 @@
+use mathlib.Core.Path.{◌≡◌}
+use Prim.Native.Nat.{◌-◌}
+use native.Mathlib.Omega.{arith}
+use Rattle.listing.specs.Putting.{put-length}
+use Rattle.listing.specs.Lines.{rows_none, rows_turn}
+use Rattle.listing.proofs.lines.put_rows.Goals as goal
+
+pub loop-i-init : goal.loop-i-init
+loop-i-init c = (omega arith, omega arith, rows_none c.args.text.now c.args.sheet.now)
+
+pub put_row-at-requires : goal.put_row-at-requires
+put_row-at-requires c =
+    (omega (arith, c.requires, c.loop-i.invariant.1, put-length c.loop-i.invariant.2, c.loop-i-test.true), omega (arith, c.requires, c.loop-i-test.true))
+
+pub overflow_add-i : goal.overflow_add-i
+overflow_add-i c = omega (arith, c.requires.0)
+
+pub loop-i-smaller : goal.loop-i-smaller
+loop-i-smaller c = omega (arith, c.loop-i-test.true)
+
+pub loop-i-preserved : goal.loop-i-preserved
+loop-i-preserved c =
+    let test = c.loop-i-test.true in (
+      omega arith,
+      omega (arith, c.put_row-at.ensures.1, c.loop-i.invariant.1),
+      rows_turn c.args.sheet.now c.loop-i.i c.loop-i.invariant.2 c.put_row-at.ensures.0,
+    )
+
+pub shape_of-text : goal.shape_of-text
+shape_of-text c = put-length c.loop-i.invariant.2
+
+pub returns : goal.returns
+returns c =
+    let whole = let e : c.loop-i.i ≡ c.args.n = omega (arith, c.loop-i.invariant.0, c.loop-i-test.false) in
+    (rw e at c.loop-i.invariant.2, omega (arith, c.loop-i.invariant.1)) in record { put = whole.0; short = whole.1 }

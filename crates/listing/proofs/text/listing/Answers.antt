@@ -1,0 +1,33 @@
+-- `listing::text::listing` meets its contract: the lines that reading's answer asks for, and room for all of them.
+-- Assumes nothing.
+use mathlib.Core.Path.{sym, ◌∙◌}
+use native.Mathlib.Omega.{arith}
+use Rattle.sheet.specs.Answered.{done-shaped}
+use Rattle.listing.specs.Putting.{put-length}
+use Rattle.listing.specs.Listing.{rows_fit, refused_fits, listed-done, listed-refused}
+use Rattle.listing.proofs.text.listing.Goals as goal
+
+pub put_refused-at-requires : goal.put_refused-at-requires
+put_refused-at-requires c = omega (arith, refused_fits)
+
+pub put_cause-requires : goal.put_cause-requires
+put_cause-requires c = omega (arith, refused_fits, c.Put-refused.ensures.1, put-length c.Put-refused.ensures.0)
+
+pub put_rows-at-requires : goal.put_rows-at-requires
+put_rows-at-requires c =
+    let z = (done-shaped c.args.sheet.now c.in-Done.summary (sym c.read.ensures.0 ∙ c.in-Done.is)).size in
+    (z.most, omega (arith, rows_fit _ z.most), omega arith)
+
+pub put_last-requires : goal.put_last-requires
+put_last-requires c =
+    let z = (done-shaped c.args.sheet.now c.in-Done.summary (sym c.read.ensures.0 ∙ c.in-Done.is)).size in
+    omega (arith, rows_fit _ z.most, c.put_rows-at.ensures.1, put-length c.put_rows-at.ensures.0)
+
+pub returns-in-Refused : goal.returns-in-Refused
+returns-in-Refused c =
+    let whole = listed-refused c.args.sheet.now c.in-Refused.refusal (sym c.read.ensures.0 ∙ c.in-Refused.is)
+    c.Put-refused.ensures.0 c.why.ensures.0 c.put_cause.ensures.0 in record { size = whole.0; listed = whole.1; counted = whole.2 }
+
+pub returns-in-Done : goal.returns-in-Done
+returns-in-Done c =
+    let whole = listed-done c.args.sheet.now c.in-Done.summary (sym c.read.ensures.0 ∙ c.in-Done.is) c.put_rows-at.ensures.0 c.put_last.ensures in record { size = whole.0; listed = whole.1; counted = whole.2 }

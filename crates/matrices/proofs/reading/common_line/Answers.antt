@@ -1,0 +1,30 @@
+use mathlib.Core.Path.{◌≡◌, sym, ◌∙◌}
+use Prim.Native.Nat.{◌+◌, ◌-◌}
+use native.Mathlib.Omega.{arith}
+use lib.ListN.{drop}
+use Rattle.normal.specs.TableProduct.{entry}
+use Rattle.matrices.specs.Matrices.{line_bytes}
+use Rattle.matrices.specs.Comparing.{agrees_start, line_missing, line_other, line-next, line-end}
+use Rattle.matrices.proofs.reading.common_line.Goals as goal
+
+pub returns-then-text-at : goal.returns-then-text-at
+returns-then-text-at c =
+    line_missing c.args.text.now c.args.at c.args.n (λ j. entry c.args.rows.now (j + c.args.first) c.args.bit) c.if-text-at.true
+
+pub loop-j-init : goal.loop-j-init
+loop-j-init c =
+    (omega arith, agrees_start (drop c.args.at c.args.text.now) (line_bytes c.args.n (λ j. entry c.args.rows.now (j + c.args.first) c.args.bit)))
+
+pub returns-then-text-at-2 : goal.returns-then-text-at-2
+returns-then-text-at-2 c =
+    line_other c.args.text.now c.args.at c.args.n (λ i. entry c.args.rows.now (i + c.args.first) c.args.bit) (omega (arith, c.if-text-at.false)) c.loop-j.j c.loop-j-test.true c.loop-j.invariant.1
+    (λ p. c.if-text-at-2.true (p ∙ sym c.digit.ensures))
+
+pub loop-j-preserved : goal.loop-j-preserved
+loop-j-preserved c =
+    (omega (arith, c.loop-j-test.true), line-next c.args.text.now c.args.at c.args.n (λ i. entry c.args.rows.now (i + c.args.first) c.args.bit) (omega (arith, c.if-text-at.false)) c.loop-j.j c.loop-j-test.true c.loop-j.invariant.1 (c.if-text-at-2.false ∙ c.digit.ensures))
+
+pub returns : goal.returns
+returns c =
+    let e : c.loop-j.j ≡ c.args.n = omega (arith, c.loop-j.invariant.0, c.loop-j-test.false) in
+    c.common_end.ensures ∙ sym (line-end c.args.text.now c.args.at c.args.n (λ i. entry c.args.rows.now (i + c.args.first) c.args.bit) (rw e at c.loop-j.invariant.1))

@@ -1,0 +1,60 @@
+use mathlib.Core.Path.{◌≡◌, ap, ◌∙◌}
+use Prim.Native.Nat.{ℕ, ◌+◌, ◌-◌, ◌*◌, ◌≤◌}
+use native.Mathlib.Omega.{arith}
+use lib.ListN.{drop}
+use Rattle.gf2.specs.Limit.{limit}
+use Rattle.matrices.specs.Matrices.{matrix_bytes, matrix_size}
+use Rattle.matrices.specs.Orders.{common_lines}
+use Rattle.matrices.specs.Blocks.{lines-size-most, text_size-most}
+use Rattle.matrices.specs.Turned.{turned}
+use Rattle.matrices.specs.Comparing.{text_start, text_stop, text_next, text_end}
+use Rattle.matrices.proofs.reading.common_text.Goals.{After-common_matrix-lines, At-loop-k}
+use Rattle.matrices.proofs.reading.common_text.Goals as goal
+
+-- the place of a matrix
+place : (l : At-loop-k) → l.loop-k.k * l.matrix_size-size.result ≡ l.loop-k.k * matrix_size l.args.n
+place l = ap (λ (x : ℕ). l.loop-k.k * x) l.matrix_size-size.ensures
+
+-- which is low
+low : (l : At-loop-k) → l.loop-k.k * l.matrix_size-size.result ≤ limit * (limit * (limit + 1) + 1)
+low l =
+    omega (arith, place l, text_size-most limit l.args.n l.loop-k.k l.requires.1 l.loop-k.invariant.0)
+
+-- what the comparison of a matrix found, at its place
+found : (c : After-common_matrix-lines)
+    → c.common_matrix-lines.result ≡ common_lines (drop (c.loop-k.k * matrix_size c.args.n) c.args.text.now) (matrix_bytes c.args.n (turned c.args.n c.args.rows.now c.loop-k.k))
+found c =
+    c.common_matrix-lines.ensures ∙ ap (λ (p : ℕ). common_lines (drop p c.args.text.now) (matrix_bytes c.args.n (turned c.args.n c.args.rows.now c.loop-k.k))) (place c.before.before)
+
+pub loop-k-init : goal.loop-k-init
+loop-k-init c = (omega arith, text_start c.args.text.now c.args.n (turned c.args.n c.args.rows.now))
+
+pub overflow_mul-k : goal.overflow_mul-k
+overflow_mul-k c = omega (arith, low (goal.at.overflow_mul-k c).At-loop-k)
+
+pub common_matrix-lines-requires : goal.common_matrix-lines-requires
+common_matrix-lines-requires c =
+    (c.requires.0, c.requires.1, c.loop-k-test.true, omega (arith, low (goal.at.common_matrix-lines-requires c).At-loop-k))
+
+pub overflow_mul-result : goal.overflow_mul-result
+overflow_mul-result c = omega (arith, lines-size-most limit c.args.n c.loop-k.k c.requires.1 c.loop-k.invariant.0)
+
+pub overflow_add-result-then-lines-n : goal.overflow_add-result-then-lines-n
+overflow_add-result-then-lines-n c =
+    omega (arith, lines-size-most limit c.args.n c.loop-k.k c.requires.1 c.loop-k.invariant.0, c.if-lines-n.true, c.requires.1)
+
+pub returns-then-lines-n : goal.returns-then-lines-n
+returns-then-lines-n c =
+    text_stop c.args.text.now c.args.n (turned c.args.n c.args.rows.now) c.loop-k.k c.loop-k-test.true c.loop-k.invariant.1 c.common_matrix-lines.result (found (goal.at.returns-then-lines-n c).After-common_matrix-lines) c.if-lines-n.true
+
+pub loop-k-preserved : goal.loop-k-preserved
+loop-k-preserved c =
+    (omega (arith, c.loop-k-test.true), text_next c.args.text.now c.args.n (turned c.args.n c.args.rows.now) c.loop-k.k c.loop-k-test.true c.loop-k.invariant.1 c.common_matrix-lines.result (found (goal.at.loop-k-preserved c).After-common_matrix-lines) (omega (arith, c.if-lines-n.false)))
+
+pub overflow_mul-result-2 : goal.overflow_mul-result-2
+overflow_mul-result-2 c = omega (arith, lines-size-most limit c.args.n c.args.n c.requires.1 (omega arith))
+
+pub returns : goal.returns
+returns c =
+    let e : c.loop-k.k ≡ c.args.n = omega (arith, c.loop-k.invariant.0, c.loop-k-test.false) in
+    text_end c.args.text.now c.args.n (turned c.args.n c.args.rows.now) (rw e at c.loop-k.invariant.1)

@@ -1,0 +1,35 @@
+-- `matrices::writing::write_accepted` meets its contract: 6, or the text of the sheet's table.
+-- Assumes nothing.
+use Prim.Native.Nat.{◌≤◌}
+use native.Mathlib.Omega.{arith}
+use lib.ListN.{length}
+use Rattle.sheet.specs.Record.{record_count}
+use Rattle.sheet.specs.Answered.{done-shaped}
+use Rattle.matrices.specs.Matrices.{text_size}
+use Rattle.matrices.specs.Calls.{write_short, write_refused, write_done}
+use Rattle.matrices.proofs.writing.write_accepted.Goals as goal
+
+pub text_size-requires : goal.text_size-requires
+text_size-requires c = (done-shaped c.args.sheet.now c.args.summary c.requires).size.most
+
+pub returns-then-text-text_size : goal.returns-then-text-text_size
+returns-then-text-text_size c =
+    let whole = write_refused c.args.sheet.now c.args.text.now
+    (write_short c.args.sheet.now c.args.text.now c.args.summary c.requires (omega (arith, c.text_size.ensures, c.if-text-text_size.true))) in record { answer = whole.0; report = whole.1; written = whole.2 }
+
+pub load_rows-table-requires : goal.load_rows-table-requires
+load_rows-table-requires c = (done-shaped c.args.sheet.now c.args.summary c.requires, omega arith)
+
+pub rows_twice-rows-requires : goal.rows_twice-rows-requires
+rows_twice-rows-requires c = (done-shaped c.args.sheet.now c.args.summary c.requires).size.most
+
+pub put_text-requires : goal.put_text-requires
+put_text-requires c =
+    let d = (done-shaped c.args.sheet.now c.args.summary c.requires).size in
+    (omega (arith, d.two), d.most, omega (arith, c.text_size.ensures, c.if-text-text_size.false))
+
+pub returns : goal.returns
+returns c =
+    let whole = let sheet = c.args.sheet.now in
+    let h : text_size (record_count sheet) ≤ length c.args.text.now = omega (arith, c.text_size.ensures, c.if-text-text_size.false) in
+    write_done sheet c.args.text.now c.args.summary c.requires h c.load_rows-table.result c.rows_twice-rows.result c.put_text.new.1.1.0 c.load_rows-table.ensures c.rows_twice-rows.ensures c.put_text.ensures in record { answer = whole.0; report = whole.1; written = whole.2 }

@@ -1,0 +1,12 @@
+-- `rows::by_bytes::degree_sums` meets its contract. The loop's invariant: the first j tables are filled (`tables`). The measure is the number of
+-- tables to come. Past these, rows and entries are zero. Assumes nothing.
+use mathlib.Core.Path.{◌≡◌}
+use Prim.Native.Nat.{◌+◌, ◌-◌, ◌/◌, ◌≤◌}
+use Rattle.rows.specs.Doubling.{tables}
+use Rattle.rows.proofs.by_bytes.degree_sums.Given as goal
+
+abbrev pub invariant-loop-j : goal.invariant-loop-j
+invariant-loop-j l = (l.j ≤ (l.n + 7) / 8) × (l.sums ≡ tables l.j l.rows l.initial.sums)
+
+abbrev pub decreases-loop-j : goal.decreases-loop-j
+decreases-loop-j l = (l.n + 7) / 8 - l.j

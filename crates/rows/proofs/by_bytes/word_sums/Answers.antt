@@ -1,0 +1,31 @@
+use mathlib.Core.Path.{◌≡◌, refl, ap, ◌∙◌}
+use Prim.Native.Nat.{ℕ, ◌-◌, ◌*◌}
+use native.Mathlib.Omega.{arith}
+use lib.ListN.{length}
+use Rattle.rows.specs.ByteSums.{word_bytes}
+use Rattle.rows.specs.Doubling.{tables, tables-length, tables_turn, tables-sums}
+use Rattle.rows.proofs.by_bytes.word_sums.Goals.{At-loop-j}
+use Rattle.rows.proofs.by_bytes.word_sums.Goals as goal
+
+-- the array keeps its length
+kept : (l : At-loop-j) → length l.loop-j.sums ≡ 256 * word_bytes
+kept l =
+    ap length l.loop-j.invariant.1 ∙ tables-length l.args.rows l.args.sums.now l.loop-j.j ∙ l.requires
+
+pub loop-j-init : goal.loop-j-init
+unfolding tables
+loop-j-init c = (omega arith, refl)
+
+pub word_table-requires : goal.word_table-requires
+word_table-requires c = (omega (arith, kept (goal.at.word_table-requires c).At-loop-j), omega arith)
+
+pub loop-j-preserved : goal.loop-j-preserved
+loop-j-preserved c =
+    let s = c.args in
+    (omega arith, tables_turn s.t1 s.sums.now c.loop-j.j c.loop-j.sums _ c.loop-j.invariant.1 c.word_table.ensures)
+
+pub returns : goal.returns
+returns c =
+    let s = c.args in
+    let e : c.loop-j.j ≡ word_bytes = omega arith in
+    c.loop-j.invariant.1 ∙ ap (λ (m : ℕ). tables m s.t1 s.sums.now) e ∙ tables-sums s.t1 s.sums.now word_bytes c.requires

@@ -1,0 +1,11 @@
+-- `search::joining::found_by` meets its contract, which is what it makes. Assumes nothing.
+use Rattle.search.specs.Search.{found_by}
+use Rattle.search.specs.Joining.{operand_of}
+use Rattle.search.proofs.joining.found_by.Goals as goal
+
+pub grade_of-grade-requires : goal.grade_of-grade-requires
+grade_of-grade-requires c = operand_of c.requires
+
+pub returns : goal.returns
+unfolding found_by
+returns c = rw c.grade_of-grade.ensures

@@ -1,0 +1,29 @@
+-- `sheet::building::build` meets its contract: it judges, and then works.
+-- Assumes nothing.
+use mathlib.Core.List.{◌∷◌}
+use lib.ListN.{length}
+use Rattle.gf2.specs.Poly.{degree}
+use Rattle.refusals.specs.Verdicts.{first_of}
+use Rattle.refusals.specs.Answered.{judged_clear, part-refuses, part-passes}
+use Rattle.sheet.specs.Orders.{normal_rule, room_order}
+use Rattle.sheet.specs.Building.{room_judged, build-refused, build-rest}
+use Rattle.sheet.proofs.building.build.Goals as goal
+
+pub build_judged-requires : goal.build_judged-requires
+build_judged-requires c =
+    let j = room_judged c.args.f c.degree_of.result c.args.element (length c.args.buffer.now) c.degree_of.ensures
+    (judged_clear (first_of (room_order c.args.f c.args.element (length c.args.buffer.now))) c.build_verdict-verdict.ensures c.in-Done.is) in
+    (c.spread_table-spread.ensures, j.0, j.1)
+
+pub returns-in-Refused : goal.returns-in-Refused
+returns-in-Refused c =
+    let whole = build-refused c.args.f c.args.element c.args.buffer.now
+    (part-refuses (room_order c.args.f c.args.element (length c.args.buffer.now)) (normal_rule c.args.f (degree c.args.f) c.args.element ∷ [])
+    c.build_verdict-verdict.ensures c.in-Refused.is) in record { answer = whole.0; report = whole.1; written = whole.2 }
+
+pub returns-in-Done : goal.returns-in-Done
+returns-in-Done c =
+    let whole = build-rest c.args.f c.args.element c.args.buffer.now c.degree_of.result c.degree_of.ensures
+    (part-passes (room_order c.args.f c.args.element (length c.args.buffer.now)) (normal_rule c.args.f (degree c.args.f) c.args.element ∷ [])
+    c.build_verdict-verdict.ensures c.in-Done.is)
+    c.build_judged.ensures.0 c.build_judged.ensures.1 in record { answer = whole.0; report = whole.1; written = whole.2 }

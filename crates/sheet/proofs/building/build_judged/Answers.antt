@@ -1,0 +1,34 @@
+-- `sheet::building::build_judged` meets its contract: 5, or the sheet.
+-- Assumes nothing.
+use mathlib.Core.Path.{ap, ◌∙◌}
+use native.Mathlib.Omega.{arith}
+use lib.Pow.{pow_mono}
+use Rattle.refusals.specs.Orders.{first-none}
+use Rattle.refusals.specs.Answered.{answer-refused, answer-clear, left-refused, left-clear}
+use Rattle.sheet.specs.Basis.{normal-refused, normal_passed, normal-rows, sheet_written, summary_table}
+use Rattle.sheet.specs.declared.answer.Issued.TheVariants as issued
+use Rattle.sheet.proofs.building.build_judged.Goals as goal
+
+pub build_basis-built-requires : goal.build_basis-built-requires
+build_basis-built-requires c =
+    let e = c.requires.1 in
+    (c.requires.0, e.in_range.most, record { is_degree = e.in_range.is_degree; below = omega (arith, e.small, pow_mono e.in_range.two) })
+
+pub returns-then-not-built : goal.returns-then-not-built
+returns-then-not-built c =
+    let whole = let v = normal-refused c.args.f c.args.n c.args.element c.build_basis-built.ensures [] c.if-not-built.true in
+    (answer-refused issued.Refused _ v, left-refused _ c.args.buffer.now v) in record { answer = whole.0; written = whole.1 }
+
+pub put_basis-requires : goal.put_basis-requires
+put_basis-requires c = (c.requires.1, c.requires.2)
+
+pub returns : goal.returns
+returns c =
+    let whole = let f = c.args.f in
+    let n = c.args.n in
+    let a = c.args.element in
+    let v = normal_passed f n a c.build_basis-built.ensures c.if-not-built.false [] ∙ first-none in
+    let rows = normal-rows f n a c.build_basis-built.ensures c.if-not-built.false in (
+      ap issued.Done (c.put_basis.ensures.0 ∙ summary_table f n a c.build_basis-built.result.basis rows) ∙ answer-clear issued.Refused _ v,
+      c.put_basis.ensures.1 ∙ sheet_written f n a c.build_basis-built.result.basis c.args.buffer.now rows ∙ left-clear _ c.args.buffer.now v,
+    ) in record { answer = whole.0; written = whole.1 }

@@ -1,0 +1,29 @@
+-- `sheet::converting::element_in` meets its contract: the remainder modulo the polynomial that record 0 names.
+-- Assumes nothing.
+use mathlib.Core.Path.{◌≡◌, ap, ◌∙◌}
+use mathlib.Core.List.{List}
+use Prim.Native.Nat.{ℕ}
+use native.Mathlib.Omega.{arith}
+use Rattle.gf2.specs.Poly.{rem, Degree}
+use Rattle.sheet.specs.Record.{record_count, polynomial_in}
+use Rattle.sheet.specs.Orders.{Shaped}
+use Rattle.sheet.specs.Answers.{element_in}
+use Rattle.sheet.specs.Clear.{polynomial-degree}
+use Rattle.sheet.proofs.converting.element_in.Goals as goal
+
+named-degree : (sheet : List ℕ) → Shaped sheet → {f : ℕ} → f ≡ polynomial_in sheet → Degree f (record_count sheet)
+named-degree sheet z e = rw e (polynomial-degree sheet z)
+
+pub polynomial_of-requires : goal.polynomial_of-requires
+polynomial_of-requires c = c.requires
+
+pub overflow_cast-sheet : goal.overflow_cast-sheet
+overflow_cast-sheet c = omega (arith, c.requires.size.most)
+
+pub element_of-requires : goal.element_of-requires
+element_of-requires c = named-degree c.args.sheet.now c.requires c.polynomial_of.ensures
+
+pub returns : goal.returns
+unfolding element_in
+returns c =
+    c.element_of.ensures ∙ ap (λ (f : ℕ). rem f (record_count c.args.sheet.now) c.args.word) c.polynomial_of.ensures

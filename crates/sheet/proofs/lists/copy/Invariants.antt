@@ -1,0 +1,16 @@
+-- `sheet::lists::copy` meets its contract. The invariant: the first i values are copied, and the rest as it came.
+-- The measure is the number of values left. Assumes nothing.
+use Prim.Native.Nat.{ℕ, ◌-◌, ◌≤◌}
+use lib.ListN.{length}
+use Rattle.sheet.specs.Lists.{FilledTo}
+use Rattle.sheet.proofs.lists.copy.Given as goal
+
+-- copying is converting by the map that leaves each value as it is
+abbrev same : ℕ → ℕ
+same x = x
+
+abbrev pub invariant-loop-i : goal.invariant-loop-i
+invariant-loop-i l = (l.i ≤ length l.from) × FilledTo same l.from l.initial.into l.into l.i
+
+abbrev pub decreases-loop-i : goal.decreases-loop-i
+decreases-loop-i l = length l.from - l.i

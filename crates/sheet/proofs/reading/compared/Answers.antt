@@ -1,0 +1,40 @@
+-- `sheet::reading::compared` meets its contract: the first record that differs decides.
+-- Assumes nothing.
+use mathlib.Core.Path.{◌≡◌, sym, ap, ◌∙◌}
+use native.Mathlib.Omega.{arith}
+use Rattle.refusals.specs.Answered.{answer-refused, answer-clear}
+use Rattle.refusals.specs.Verdicts.{refuse, first_of}
+use Rattle.sheet.specs.Orders.{differ_rules, rebuilt_from}
+use Rattle.sheet.specs.Basis.{sheet_written, summary_table}
+use Rattle.sheet.specs.Reading.{differ_verdict, same_verdict}
+use Rattle.sheet.specs.Rebuilding.{rebuilt_element, rebuilt_summary, rebuilt_differing, rebuilt_room}
+use Rattle.sheet.specs.declared.answer.Issued.TheVariants as issued
+use Rattle.sheet.proofs.reading.compared.Goals as goal
+
+pub put_basis-summary-requires : goal.put_basis-summary-requires
+put_basis-summary-requires c =
+    let r = rebuilt_element c.args.sheet.now c.args.f c.args.n c.args.element c.requires.0 in
+    (r, omega (arith, r.in_range.most))
+
+pub first_differing-place-requires : goal.first_differing-place-requires
+first_differing-place-requires c =
+    let z = c.requires.0.shaped.size in
+    let e = c.put_basis-summary.ensures.1 ∙ sheet_written c.args.f c.args.n c.args.element c.args.basis _ c.requires.1 in
+    (rw c.requires.0.count z.most, rw c.requires.0.count (omega (arith, z.whole)), rebuilt_room c.args.sheet.now c.args.f c.args.n c.args.element c.requires.0 _ c.put_basis-summary.new.0 e)
+
+pub returns-then-place-count : goal.returns-then-place-count
+returns-then-place-count c =
+    let e = c.put_basis-summary.ensures.1 ∙ sheet_written c.args.f c.args.n c.args.element c.args.basis _ c.requires.1 in
+    let place = c.first_differing-place.ensures ∙ rebuilt_differing c.args.sheet.now c.args.f c.args.n c.args.element c.requires.0 _ c.put_basis-summary.new.0 e in
+    let v : first_of (differ_rules c.args.sheet.now (rebuilt_from c.args.sheet.now) 0 c.args.n) ≡ refuse 10 c.first_differing-place.result =
+    differ_verdict c.args.sheet.now (rebuilt_from c.args.sheet.now) 0 c.args.n (omega (arith, place, c.if-place-count.true)) ∙ ap (refuse 10) (sym place) in
+    answer-refused issued.Refused _ v
+
+pub returns : goal.returns
+returns c =
+    let e = c.put_basis-summary.ensures.1 ∙ sheet_written c.args.f c.args.n c.args.element c.args.basis _ c.requires.1 in
+    let place = c.first_differing-place.ensures ∙ rebuilt_differing c.args.sheet.now c.args.f c.args.n c.args.element c.requires.0 _ c.put_basis-summary.new.0 e in
+    ap issued.Done
+    (c.put_basis-summary.ensures.0 ∙ summary_table c.args.f c.args.n c.args.element c.args.basis c.requires.1
+    ∙ rebuilt_summary c.args.sheet.now c.args.f c.args.n c.args.element c.requires.0)
+    ∙ answer-clear issued.Refused _ (same_verdict c.args.sheet.now (rebuilt_from c.args.sheet.now) 0 c.args.n (omega (arith, place, c.if-place-count.false)))
