@@ -6,4 +6,4 @@ use Rattle.gf2.proofs.division.picked.Goals as goal
 pub returns : goal.returns
 returns c =
     let m = c.wrapping_sub_u64 in
-    mask_picks m.result c.args.bit c.args.row c.requires m.type_inv c.ranges.row.fits m.ensures
+    mask_picks m.result c.args.bit c.args.row c.requires m.type_inv c.ranges.row.fits m.ensures.value
