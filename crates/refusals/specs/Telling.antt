@@ -42,10 +42,12 @@ first_found (r ∷ rs) k p e = go r.applies refl (first_found rs k p)
     go false a ih = later a (ih (sym (first_passes r rs a) ∙ e))
 
 pub found_first : (rs : List Rule) (k p : ℕ) → First k p rs → first_of rs ≡ refuse k p
+found_first [] k p f = elim f [ ]
 found_first (r ∷ rs) k p (here ek ep a) = rw (first-applies r rs a, ek, ep)
 found_first (r ∷ rs) k p (later a f) = first_passes r rs a ∙ found_first rs k p f
 
 pub every_first : (P : ℕ → ℕ → Type 0) (rs : List Rule) (k p : ℕ) → Every P rs → First k p rs → P k p
+every_first P [] k p all f = elim f [ ]
 every_first P (r ∷ rs) k p all (here ek ep a) = rw (sym ek, sym ep) all.0
 every_first P (r ∷ rs) k p all (later a f) = every_first P rs k p all.1 f
 
@@ -189,12 +191,16 @@ unfolding answer_of
 done_checked clear = (λ e. refl, λ d. refl)
 done_checked (refuse k p) = (λ e. absurd (refuse_not_clear k p e), λ d. let z : ◌≡◌ {A = ℕ} 0 1 = cc in absurd (omega arith))
 
+refused-value : (k p x : ℕ) → (report_of (refuse k p) x).value ≡ 0
+unfolding report_of
+refused-value k p x = refl
+
 module _ (rs : List Rule) (P : ℕ → ℕ → Type 0) (all : Every P rs) (positive : (k p : ℕ) → P k p → 0 < k) where
   -- as the order's verdict reports a value x, whatever done means
   pub report_told : (Done : Type 0) → ((first_of rs ≡ clear) ↔ Done) → (x : ℕ)
       → Told rs P Done (report_of (first_of rs) x).number (report_of (first_of rs) x).place ((report_of (first_of rs) x).value ∷ [])
   report_told Done is x =
-      told rs P Done _ _ _ all positive is (number (first_of rs)) (place (first_of rs)) (λ k p e. (rw e (unfold report_of in refl), tt))
+      told rs P Done _ _ _ all positive is (number (first_of rs)) (place (first_of rs)) (λ k p e. (ap (λ (v : Verdict). (report_of v x).value) e ∙ refused-value k p x, tt))
     where
       number : (v : Verdict) → (report_of v x).number ≡ number_of v
       number clear = unfold report_of number_of in refl

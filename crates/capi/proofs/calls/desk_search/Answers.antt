@@ -4,4 +4,4 @@ use mathlib.Core.Path.{◌∙◌}
 use Rattle.capi.proofs.calls.desk_search.Goals as goal
 
 pub returns : goal.returns
-returns c = c.found_out.ensures ∙ rw (c.search.ensures.1, c.search.ensures.0)
+returns c = c.found_out.ensures ∙ rw (c.search.ensures.report, c.search.ensures.answer)

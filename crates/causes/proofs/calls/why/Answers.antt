@@ -14,18 +14,18 @@ pub sheet_cause-requires : goal.sheet_cause-requires
 unfolding read_answer
 sheet_cause-requires c =
     let sheet = c.args.sheet.now in
-    refused_verdict (first_of (read_order sheet)) (summary_in sheet) (sym c.read.ensures.0 ∙ c.in-Refused.is)
+    refused_verdict (first_of (read_order sheet)) (summary_in sheet) (sym c.read.ensures.answer ∙ c.in-Refused.is)
 
 pub returns-in-Refused : goal.returns-in-Refused
 unfolding read_answer why_answer
 returns-in-Refused c =
-    let whole = let sheet = c.args.sheet.now in
-    why-promised sheet
-    (cause-refused (sheet_cause sheet) (refused_verdict (first_of (read_order sheet)) (summary_in sheet) (sym c.read.ensures.0 ∙ c.in-Refused.is)) c.sheet_cause.ensures) in record { answer = whole.0; report = whole.1 }
+    let sheet = c.args.sheet.now in
+    let whole = why-promised sheet
+    (cause-refused (sheet_cause sheet) (refused_verdict (first_of (read_order sheet)) (summary_in sheet) (sym c.read.ensures.answer ∙ c.in-Refused.is)) c.sheet_cause.ensures) in record { answer = whole.0; report = whole.1 }
 
 pub returns-in-Done : goal.returns-in-Done
 unfolding read_answer why_answer
 returns-in-Done c =
-    let whole = let sheet = c.args.sheet.now in
-    why-promised sheet
-    (cause-accepted (sheet_cause sheet) (done-clear (first_of (read_order sheet)) (summary_in sheet) _ (sym c.read.ensures.0 ∙ c.in-Done.is))) in record { answer = whole.0; report = whole.1 }
+    let sheet = c.args.sheet.now in
+    let whole = why-promised sheet
+    (cause-accepted (sheet_cause sheet) (done-clear (first_of (read_order sheet)) (summary_in sheet) _ (sym c.read.ensures.answer ∙ c.in-Done.is))) in record { answer = whole.0; report = whole.1 }

@@ -18,11 +18,11 @@ use Rattle.causes.proofs.calls.why_build.Goals as goal
 pub returns-then-is_of_operands : goal.returns-then-is_of_operands
 unfolding build_answer why_build_answer
 returns-then-is_of_operands c =
-    let whole = let f = c.args.f in
+    let f = c.args.f in
     let a = c.args.element in
     let r = c.in-Refused.refusal in
-    build-promised f a
-    (cause-refused (basis_cause f (degree f) a) (refused_verdict (first_of (build_order f a (record_size * limit))) (summary_of f (degree f) a) (sym c.build.ensures.0 ∙ c.in-Refused.is))
+    let whole = build-promised f a
+    (cause-refused (basis_cause f (degree f) a) (refused_verdict (first_of (build_order f a (record_size * limit))) (summary_of f (degree f) a) (sym c.build.ensures.answer ∙ c.in-Refused.is))
     (basis_alone f (degree f) r a ((operands_number r.number).0 (sym c.is_of_operands.ensures ∙ c.if-is_of_operands.true)))) in record { answer = whole.0; report = whole.1 }
 
 pub basis_cause-requires : goal.basis_cause-requires
@@ -32,7 +32,7 @@ basis_cause-requires c =
     let a = c.args.element in
     let r = c.in-Refused.refusal in
     let e : first_of (build_order f a (record_size * limit)) ≡ refuse r.number r.place =
-    refused_verdict (first_of (build_order f a (record_size * limit))) (summary_of f (degree f) a) (sym c.build.ensures.0 ∙ c.in-Refused.is) in
+    refused_verdict (first_of (build_order f a (record_size * limit))) (summary_of f (degree f) a) (sym c.build.ensures.answer ∙ c.in-Refused.is) in
     let off = (operands_number r.number).1 (sym c.is_of_operands.ensures ∙ c.if-is_of_operands.false) in (
       build-operand f a (record_size * limit) c.degree_of.result r.number r.place c.degree_of.ensures e off.0 off.1,
       λ five. rw c.degree_of.ensures (build_dependent f a (record_size * limit) r.place (rw five at e)),
@@ -41,17 +41,17 @@ basis_cause-requires c =
 pub returns-else-is_of_operands : goal.returns-else-is_of_operands
 unfolding build_answer why_build_answer
 returns-else-is_of_operands c =
-    let whole = let f = c.args.f in
+    let f = c.args.f in
     let a = c.args.element in
     let r = c.in-Refused.refusal in
-    build-promised f a
-    (cause-refused (basis_cause f (degree f) a) (refused_verdict (first_of (build_order f a (record_size * limit))) (summary_of f (degree f) a) (sym c.build.ensures.0 ∙ c.in-Refused.is))
+    let whole = build-promised f a
+    (cause-refused (basis_cause f (degree f) a) (refused_verdict (first_of (build_order f a (record_size * limit))) (summary_of f (degree f) a) (sym c.build.ensures.answer ∙ c.in-Refused.is))
     (c.basis_cause.ensures ∙ ap (λ (n : ℕ). basis_cause f n a r.number r.place) c.degree_of.ensures)) in record { answer = whole.0; report = whole.1 }
 
 pub returns-in-Done : goal.returns-in-Done
 unfolding build_answer why_build_answer
 returns-in-Done c =
-    let whole = let f = c.args.f in
+    let f = c.args.f in
     let a = c.args.element in
-    build-promised f a
-    (cause-accepted (basis_cause f (degree f) a) (done-clear (first_of (build_order f a (record_size * limit))) (summary_of f (degree f) a) _ (sym c.build.ensures.0 ∙ c.in-Done.is))) in record { answer = whole.0; report = whole.1 }
+    let whole = build-promised f a
+    (cause-accepted (basis_cause f (degree f) a) (done-clear (first_of (build_order f a (record_size * limit))) (summary_of f (degree f) a) _ (sym c.build.ensures.answer ∙ c.in-Done.is))) in record { answer = whole.0; report = whole.1 }

@@ -17,10 +17,10 @@ use Rattle.causes.proofs.calls.why_check.Goals as goal
 pub returns-then-refusal-eq1 : goal.returns-then-refusal-eq1
 unfolding check_answer why_check_answer
 returns-then-refusal-eq1 c =
-    let whole = let f = c.args.f in
+    let f = c.args.f in
     let r = c.in-Refused.refusal in
-    check-promised f
-    (cause-refused (polynomial_cause f (degree f)) (judged_verdict (first_of (check_order f)) c.check.ensures.0 c.in-Refused.is)
+    let whole = check-promised f
+    (cause-refused (polynomial_cause f (degree f)) (judged_verdict (first_of (check_order f)) c.check.ensures.answer c.in-Refused.is)
     (polynomial-alone f (degree f) r (λ e. omega (arith, c.if-refusal-eq1.true)) (λ e. omega (arith, c.if-refusal-eq1.true)))) in record { answer = whole.0; report = whole.1 }
 
 pub polynomial_cause-requires : goal.polynomial_cause-requires
@@ -28,20 +28,20 @@ unfolding check_answer
 polynomial_cause-requires c =
     let f = c.args.f in
     let r = c.in-Refused.refusal in
-    check_range f c.degree_of.result r.number r.place c.degree_of.ensures (judged_verdict (first_of (check_order f)) c.check.ensures.0 c.in-Refused.is) c.if-refusal-eq1.false
+    check_range f c.degree_of.result r.number r.place c.degree_of.ensures (judged_verdict (first_of (check_order f)) c.check.ensures.answer c.in-Refused.is) c.if-refusal-eq1.false
 
 pub returns-else-refusal-eq1 : goal.returns-else-refusal-eq1
 unfolding check_answer why_check_answer
 returns-else-refusal-eq1 c =
-    let whole = let f = c.args.f in
+    let f = c.args.f in
     let r = c.in-Refused.refusal in
-    check-promised f
-    (cause-refused (polynomial_cause f (degree f)) (judged_verdict (first_of (check_order f)) c.check.ensures.0 c.in-Refused.is)
+    let whole = check-promised f
+    (cause-refused (polynomial_cause f (degree f)) (judged_verdict (first_of (check_order f)) c.check.ensures.answer c.in-Refused.is)
     (c.polynomial_cause.ensures ∙ ap (λ (n : ℕ). polynomial_cause f n r.number r.place) c.degree_of.ensures)) in record { answer = whole.0; report = whole.1 }
 
 pub returns-in-Done : goal.returns-in-Done
 unfolding check_answer why_check_answer
 returns-in-Done c =
-    let whole = let f = c.args.f in
-    check-promised f
-    (cause-accepted (polynomial_cause f (degree f)) (judged_clear (first_of (check_order f)) c.check.ensures.0 c.in-Done.is)) in record { answer = whole.0; report = whole.1 }
+    let f = c.args.f in
+    let whole = check-promised f
+    (cause-accepted (polynomial_cause f (degree f)) (judged_clear (first_of (check_order f)) c.check.ensures.answer c.in-Done.is)) in record { answer = whole.0; report = whole.1 }

@@ -23,7 +23,7 @@ returns-in-Refused c =
 pub returns-in-Done : goal.returns-in-Done
 unfolding multiply_answer multiply_report
 returns-in-Done c =
-    let whole = let f = c.args.f in
-    value-promised (first_of (multiply_order f)) _
+    let f = c.args.f in
+    let whole = value-promised (first_of (multiply_order f)) _
     (ap value.Done (c.product.ensures ∙ ap (λ (n : ℕ). mul_mod f n (rem f n c.args.a) (rem f n c.args.b)) c.degree_of.ensures)
     ∙ judged_done value.Refused _ _ c.degree_verdict-verdict.ensures c.in-Done.is) in record { answer = whole.0; report = whole.1 }

@@ -23,7 +23,7 @@ returns-in-Refused c =
 pub returns-in-Done : goal.returns-in-Done
 unfolding square_answer square_report
 returns-in-Done c =
-    let whole = let f = c.args.f in
-    value-promised (first_of (square_order f)) _
+    let f = c.args.f in
+    let whole = value-promised (first_of (square_order f)) _
     (ap value.Done (c.squared.ensures ∙ ap (λ (n : ℕ). mul_mod f n (rem f n c.args.a) (rem f n c.args.a)) c.degree_of.ensures)
     ∙ judged_done value.Refused _ _ c.degree_verdict-verdict.ensures c.in-Done.is) in record { answer = whole.0; report = whole.1 }

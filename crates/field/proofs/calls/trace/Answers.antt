@@ -24,7 +24,7 @@ returns-in-Refused c =
 pub returns-in-Done : goal.returns-in-Done
 unfolding trace_answer trace_report
 returns-in-Done c =
-    let whole = let f = c.args.f in
-    value-promised (first_of (trace_order f)) _
+    let f = c.args.f in
+    let whole = value-promised (first_of (trace_order f)) _
     (ap value.Done (c.conjugates_sum.ensures ∙ ap (λ (n : ℕ). trace f n (rem f n c.args.a)) c.degree_of.ensures)
     ∙ judged_done value.Refused _ _ c.check_verdict-verdict.ensures c.in-Done.is) in record { answer = whole.0; report = whole.1 }

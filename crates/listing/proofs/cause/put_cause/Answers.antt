@@ -18,17 +18,17 @@ returns-in-Refused c =
 pub returns-in-Divisor : goal.returns-in-Divisor
 unfolding cause_line
 returns-in-Divisor c =
-    let whole = put-counted (rw c.in-Divisor.is c.put_number.ensures.0) in record { put = whole.0; counted = whole.1 }
+    let whole = put-counted (rw c.in-Divisor.is c.put_number.ensures.put) in record { put = whole.0; counted = whole.1 }
 
 pub returns-in-Became : goal.returns-in-Became
 unfolding cause_line
 returns-in-Became c =
-    let whole = put-counted (rw c.in-Became.is c.put_number-in-Became.ensures.0) in record { put = whole.0; counted = whole.1 }
+    let whole = put-counted (rw c.in-Became.is c.put_number-in-Became.ensures.put) in record { put = whole.0; counted = whole.1 }
 
 pub returns-in-Dependency : goal.returns-in-Dependency
 unfolding cause_line
 returns-in-Dependency c =
-    let whole = put-counted (rw c.in-Dependency.is c.put_number-in-Dependency.ensures.0) in record { put = whole.0; counted = whole.1 }
+    let whole = put-counted (rw c.in-Dependency.is c.put_number-in-Dependency.ensures.put) in record { put = whole.0; counted = whole.1 }
 
 pub returns-in-Differs : goal.returns-in-Differs
 unfolding cause_line

@@ -5,4 +5,4 @@ use Rattle.listing.proofs.cause.put_difference.Goals as goal
 
 pub returns : goal.returns
 returns c =
-    difference_put c.args.difference c.put_number-second.ensures.0 c.put_field-third.ensures.0 c.put_number-fourth.ensures.0 c.put_number.ensures.0
+    difference_put c.args.difference c.put_number-second.ensures.put c.put_field-third.ensures.put c.put_number-fourth.ensures.put c.put_number.ensures.put

@@ -7,4 +7,4 @@ use Rattle.listing.proofs.lines.put_last.Goals as goal
 pub returns : goal.returns
 unfolding complexity_word grade_word
 returns c =
-    last-put c.args.complexity c.grade_number-number.ensures c.put_bytes-first.ensures c.put_number-second.ensures.0 c.put_bytes-third.ensures c.put_number.ensures.0
+    last-put c.args.complexity c.grade_number-number.ensures c.put_bytes-first.ensures c.put_number-second.ensures.put c.put_bytes-third.ensures c.put_number.ensures.put

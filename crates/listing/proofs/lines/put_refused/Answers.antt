@@ -9,5 +9,7 @@ use Rattle.listing.proofs.lines.put_refused.Goals as goal
 pub returns : goal.returns
 unfolding refused_word
 returns c =
-    let whole = let ends : c.put_bytes-first.result ≡ 8 = c.put_bytes-first.ensures.ends in
-    (refused-put c.args.number c.args.place c.put_bytes-first.ensures c.put_number-second.ensures.0 c.put_number.ensures.0, omega (arith, c.put_number-second.ensures.1, c.put_number.ensures.1)) in record { put = whole.0; short = whole.1 }
+    let ends : c.put_bytes-first.result ≡ 8 = c.put_bytes-first.ensures.ends in record {
+      put = refused-put c.args.number c.args.place c.put_bytes-first.ensures c.put_number-second.ensures.put c.put_number.ensures.put;
+      short = omega (arith, c.put_number-second.ensures.short, c.put_number.ensures.short);
+    }

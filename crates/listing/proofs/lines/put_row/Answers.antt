@@ -11,6 +11,6 @@ returns c =
     record {
       put = row_put c.args.sheet.now c.args.i
           (ap (λ (x : Row). x.conjugate) c.row_at-row.ensures) (ap (λ (x : Row). x.inverse) c.row_at-row.ensures) (ap (λ (x : Row). x.table) c.row_at-row.ensures)
-          c.put_number-second.ensures.0 c.put_number-third.ensures.0 c.put_number-fourth.ensures.0 c.put_number.ensures.0;
-      short = omega (arith, c.put_number-second.ensures.1, c.put_number-third.ensures.1, c.put_number-fourth.ensures.1, c.put_number.ensures.1);
+          c.put_number-second.ensures.put c.put_number-third.ensures.put c.put_number-fourth.ensures.put c.put_number.ensures.put;
+      short = omega (arith, c.put_number-second.ensures.short, c.put_number-third.ensures.short, c.put_number-fourth.ensures.short, c.put_number.ensures.short);
     }

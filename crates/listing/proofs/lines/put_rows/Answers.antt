@@ -22,8 +22,8 @@ pub loop-i-preserved : goal.loop-i-preserved
 loop-i-preserved c =
     let test = c.loop-i-test.true in (
       omega arith,
-      omega (arith, c.put_row-at.ensures.1, c.loop-i.invariant.1),
-      rows_turn c.args.sheet.now c.loop-i.i c.loop-i.invariant.2 c.put_row-at.ensures.0,
+      omega (arith, c.put_row-at.ensures.short, c.loop-i.invariant.1),
+      rows_turn c.args.sheet.now c.loop-i.i c.loop-i.invariant.2 c.put_row-at.ensures.put,
     )
 
 pub shape_of-text : goal.shape_of-text
@@ -31,5 +31,7 @@ shape_of-text c = put-length c.loop-i.invariant.2
 
 pub returns : goal.returns
 returns c =
-    let whole = let e : c.loop-i.i ≡ c.args.n = omega (arith, c.loop-i.invariant.0, c.loop-i-test.false) in
-    (rw e at c.loop-i.invariant.2, omega (arith, c.loop-i.invariant.1)) in record { put = whole.0; short = whole.1 }
+    let e : c.loop-i.i ≡ c.args.n = omega (arith, c.loop-i.invariant.0, c.loop-i-test.false) in record {
+      put = rw e at c.loop-i.invariant.2;
+      short = omega (arith, c.loop-i.invariant.1);
+    }

@@ -15,19 +15,19 @@ put_cause-requires c = omega (arith, refused_fits, c.Put-refused.ensures.1, put-
 
 pub put_rows-at-requires : goal.put_rows-at-requires
 put_rows-at-requires c =
-    let z = (done-shaped c.args.sheet.now c.in-Done.summary (sym c.read.ensures.0 ∙ c.in-Done.is)).size in
+    let z = (done-shaped c.args.sheet.now c.in-Done.summary (sym c.read.ensures.answer ∙ c.in-Done.is)).size in
     (z.most, omega (arith, rows_fit _ z.most), omega arith)
 
 pub put_last-requires : goal.put_last-requires
 put_last-requires c =
-    let z = (done-shaped c.args.sheet.now c.in-Done.summary (sym c.read.ensures.0 ∙ c.in-Done.is)).size in
-    omega (arith, rows_fit _ z.most, c.put_rows-at.ensures.1, put-length c.put_rows-at.ensures.0)
+    let z = (done-shaped c.args.sheet.now c.in-Done.summary (sym c.read.ensures.answer ∙ c.in-Done.is)).size in
+    omega (arith, rows_fit _ z.most, c.put_rows-at.ensures.short, put-length c.put_rows-at.ensures.put)
 
 pub returns-in-Refused : goal.returns-in-Refused
 returns-in-Refused c =
-    let whole = listed-refused c.args.sheet.now c.in-Refused.refusal (sym c.read.ensures.0 ∙ c.in-Refused.is)
-    c.Put-refused.ensures.0 c.why.ensures.0 c.put_cause.ensures.0 in record { size = whole.0; listed = whole.1; counted = whole.2 }
+    let whole = listed-refused c.args.sheet.now c.in-Refused.refusal (sym c.read.ensures.answer ∙ c.in-Refused.is)
+    c.Put-refused.ensures.0 c.why.ensures.answer c.put_cause.ensures.put in record { size = whole.0; listed = whole.1; counted = whole.2 }
 
 pub returns-in-Done : goal.returns-in-Done
 returns-in-Done c =
-    let whole = listed-done c.args.sheet.now c.in-Done.summary (sym c.read.ensures.0 ∙ c.in-Done.is) c.put_rows-at.ensures.0 c.put_last.ensures in record { size = whole.0; listed = whole.1; counted = whole.2 }
+    let whole = listed-done c.args.sheet.now c.in-Done.summary (sym c.read.ensures.answer ∙ c.in-Done.is) c.put_rows-at.ensures.put c.put_last.ensures in record { size = whole.0; listed = whole.1; counted = whole.2 }

@@ -17,15 +17,15 @@ read_operand-requires c =
 
 pub returns-in-Refused : goal.returns-in-Refused
 returns-in-Refused c =
-    let whole = let f = c.args.f in
+    let f = c.args.f in
     let a = c.args.element in
-    text_refused f a c.args.text.now
+    let whole = text_refused f a c.args.text.now
     (part-refuses (operand_order f (a ∷ [])) (field_order f ++ match_order f (degree f) a c.args.text.now) c.operand_verdict-operand.ensures c.in-Refused.is) in record { answer = whole.0; report = whole.1 }
 
 pub returns-in-Done : goal.returns-in-Done
 returns-in-Done c =
-    let whole = let f = c.args.f in
+    let f = c.args.f in
     let a = c.args.element in
-    text_rest f a c.args.text.now c.degree_of.result c.degree_of.ensures
+    let whole = text_rest f a c.args.text.now c.degree_of.result c.degree_of.ensures
     (part-passes (operand_order f (a ∷ [])) (field_order f ++ match_order f (degree f) a c.args.text.now) c.operand_verdict-operand.ensures c.in-Done.is)
     c.read_operand.ensures in record { answer = whole.0; report = whole.1 }

@@ -30,6 +30,6 @@ put_text-requires c =
 
 pub returns : goal.returns
 returns c =
-    let whole = let sheet = c.args.sheet.now in
+    let sheet = c.args.sheet.now in
     let h : text_size (record_count sheet) ≤ length c.args.text.now = omega (arith, c.text_size.ensures, c.if-text-text_size.false) in
-    write_done sheet c.args.text.now c.args.summary c.requires h c.load_rows-table.result c.rows_twice-rows.result c.put_text.new.1.1.0 c.load_rows-table.ensures c.rows_twice-rows.ensures c.put_text.ensures in record { answer = whole.0; report = whole.1; written = whole.2 }
+    let whole = write_done sheet c.args.text.now c.args.summary c.requires h c.load_rows-table.result c.rows_twice-rows.result c.put_text.new.1.1.0 c.load_rows-table.ensures c.rows_twice-rows.ensures c.put_text.ensures in record { answer = whole.0; report = whole.1; written = whole.2 }

@@ -7,9 +7,9 @@ use Rattle.matrices.specs.Calls.{write_refused}
 use Rattle.matrices.proofs.writing.write_matrices.Goals as goal
 
 pub write_accepted-requires : goal.write_accepted-requires
-write_accepted-requires c = sym c.read.ensures.0 ∙ c.in-Done.is
+write_accepted-requires c = sym c.read.ensures.answer ∙ c.in-Done.is
 
 pub returns-in-Refused : goal.returns-in-Refused
 returns-in-Refused c =
     let whole = write_refused c.args.sheet.now c.args.text.now
-    (write_refused_as_read c.args.sheet.now (length c.args.text.now) c.in-Refused.refusal (sym c.read.ensures.0 ∙ c.in-Refused.is)) in record { answer = whole.0; report = whole.1; written = whole.2 }
+    (write_refused_as_read c.args.sheet.now (length c.args.text.now) c.in-Refused.refusal (sym c.read.ensures.answer ∙ c.in-Refused.is)) in record { answer = whole.0; report = whole.1; written = whole.2 }

@@ -42,7 +42,7 @@ overflow_step-j c = omega (arith, c.requires.1)
 pub loop-j-preserved : goal.loop-j-preserved
 loop-j-preserved c =
     let s = c.args in
-    (omega arith, tables_turn s.t1 s.sums.now c.loop-j.j c.loop-j.sums _ c.loop-j.invariant.1 c.byte_table.ensures)
+    (omega arith, tables_turn s.rows s.sums.now c.loop-j.j c.loop-j.sums _ c.loop-j.invariant.1 c.byte_table.ensures)
 
 pub returns : goal.returns
 returns c =

@@ -22,10 +22,10 @@ word_table-requires c = (omega (arith, kept (goal.at.word_table-requires c).At-l
 pub loop-j-preserved : goal.loop-j-preserved
 loop-j-preserved c =
     let s = c.args in
-    (omega arith, tables_turn s.t1 s.sums.now c.loop-j.j c.loop-j.sums _ c.loop-j.invariant.1 c.word_table.ensures)
+    (omega arith, tables_turn s.rows s.sums.now c.loop-j.j c.loop-j.sums _ c.loop-j.invariant.1 c.word_table.ensures)
 
 pub returns : goal.returns
 returns c =
     let s = c.args in
     let e : c.loop-j.j ≡ word_bytes = omega arith in
-    c.loop-j.invariant.1 ∙ ap (λ (m : ℕ). tables m s.t1 s.sums.now) e ∙ tables-sums s.t1 s.sums.now word_bytes c.requires
+    c.loop-j.invariant.1 ∙ ap (λ (m : ℕ). tables m s.rows s.sums.now) e ∙ tables-sums s.rows s.sums.now word_bytes c.requires

@@ -41,17 +41,17 @@ abbrev head : After-sum-in-loop-k → At-loop-k
 head d = d.before.before.before.before.before.before
 
 abbrev rest : After-sum-in-loop-k → ℕ
-rest d = get_or (head d).before.args.t1 (head d).loop.k 0 ⊕ d.sum.result
+rest d = get_or (head d).args.rows (head d).loop-k.k 0 ⊕ d.sum.result
 
 abbrev name : After-sum-in-loop-k → ℕ
 name d = d.power.result ⊕ d.sum-in-loop-k.result
 
 reduced-row : (d : After-sum-in-loop-k) → let l = head d in
-    Reduced l.before.args.t1 l.before.args.n l.loop.k l.loop.names l.loop.pivots (rest d) (name d)
+    Reduced l.args.rows l.args.n l.loop-k.k l.loop-k.names l.loop-k.pivots (rest d) (name d)
 unfolding ◌∩◌
 reduced-row d =
     let l = head d in
-    row_reduced l.loop.inv.1 l.before.pre.1.row_lt
+    row_reduced l.loop-k.invariant.1 l.requires.1.row_lt
     d.sum.result d.sum-in-loop-k.result d.power.result
     d.sum.ensures d.sum-in-loop-k.ensures d.power.ensures
 
@@ -61,15 +61,15 @@ pub returns-then-rest-eq0 : goal.returns-then-rest-eq0
 unfolding ◌⊕◌
 returns-then-rest-eq0 c =
     let l = head (goal.at.returns-then-rest-eq0 c).After-sum-in-loop-k in
-    let size : length l.before.args.t1 ≡ limit = search rules in
-    (row_dependent l.loop.inv.1 l.before.pre.1.row_lt (reduced-row (goal.at.returns-then-rest-eq0 c).After-sum-in-loop-k) (omega arith) c.if-rest-eq0.true, rw size)
+    let size : length l.args.rows ≡ limit = search rules in
+    (row_dependent l.loop-k.invariant.1 l.requires.1.row_lt (reduced-row (goal.at.returns-then-rest-eq0 c).After-sum-in-loop-k) (omega arith) c.if-rest-eq0.true, rw size)
 
 -- ---- what is left goes in
 
 pub overflow_cast-column : goal.overflow_cast-column
 overflow_cast-column c = record { fits = lt_of_le_of_lt (trailing_le 64 _) (omega arith) }
 
-column-lt : (e : Else-rest-eq0) → count_trailing_zeros 64 (rest e.before) < (head e.before).before.args.n
+column-lt : (e : Else-rest-eq0) → count_trailing_zeros 64 (rest e.before) < (head e.before).args.n
 unfolding ◌⊕◌
 column-lt e = pivot_lt 64 (reduced-row e.before) e.if-rest-eq0.false (omega arith)
 
@@ -91,17 +91,17 @@ pub loop-k-preserved : goal.loop-k-preserved
 unfolding ◌⊕◌
 loop-k-preserved c =
     let l = head (goal.at.loop-k-preserved c).After-sum-in-loop-k in
-    let i = l.loop.inv in
+    let i = l.loop-k.invariant in
     let r = reduced-row (goal.at.loop-k-preserved c).After-sum-in-loop-k in
     let m = c.width.result in
     let column = count_trailing_zeros 64 (rest (goal.at.loop-k-preserved c).After-sum-in-loop-k) in
     let p = c.place.ensures in (
       omega arith,
-      rw (p.0, p.1, c.power-pivots.ensures)
-          (insertion_turn i.1 l.before.pre.1.row_lt r column m limit
+      rw (p.rows, p.follow, c.power-pivots.ensures)
+          (insertion_turn i.1 l.requires.1.row_lt r column m limit
           (pivot_set 64 r c.if-rest-eq0.false (omega arith)) c.width.ensures.0 i.2 i.3 (omega arith) (count-le (goal.at.loop-k-preserved c).After-width)),
-      rw p.0 (length-placed column (rest (goal.at.loop-k-preserved c).After-sum-in-loop-k) l.loop.reduced l.loop.reduced m ∙ i.2),
-      rw p.1 (length-placed column (name (goal.at.loop-k-preserved c).After-sum-in-loop-k) l.loop.reduced l.loop.names m ∙ i.3),
+      rw p.rows (length-placed column (rest (goal.at.loop-k-preserved c).After-sum-in-loop-k) l.loop-k.reduced l.loop-k.reduced m ∙ i.2),
+      rw p.follow (length-placed column (name (goal.at.loop-k-preserved c).After-sum-in-loop-k) l.loop-k.reduced l.loop-k.names m ∙ i.3),
     )
 
 -- ---- all rows are in

@@ -29,8 +29,8 @@ loop-i-preserved c =
 
 pub returns : goal.returns
 returns c =
-    let whole = let s = c.args in
-    let e : s.count ≡ c.loop-i.i = omega arith in (
-      rw e (ap (λ (r : List ℕ). set r s.column s.row) c.loop-i.invariant.1),
-      rw e (ap (λ (r : List ℕ). set r s.column s.name) c.loop-i.invariant.2),
-    ) in record { rows = whole.0; follow = whole.1 }
+    let s = c.args in
+    let e : s.count ≡ c.loop-i.i = omega arith in record {
+      rows = rw e (ap (λ (r : List ℕ). set r s.column s.row) c.loop-i.invariant.1);
+      follow = rw e (ap (λ (r : List ℕ). set r s.column s.name) c.loop-i.invariant.2);
+    }

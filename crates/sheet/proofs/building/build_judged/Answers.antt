@@ -16,19 +16,21 @@ build_basis-built-requires c =
 
 pub returns-then-not-built : goal.returns-then-not-built
 returns-then-not-built c =
-    let whole = let v = normal-refused c.args.f c.args.n c.args.element c.build_basis-built.ensures [] c.if-not-built.true in
-    (answer-refused issued.Refused _ v, left-refused _ c.args.buffer.now v) in record { answer = whole.0; written = whole.1 }
+    let v = normal-refused c.args.f c.args.n c.args.element c.build_basis-built.ensures [] c.if-not-built.true in record {
+      answer = answer-refused issued.Refused _ v;
+      written = left-refused _ c.args.buffer.now v;
+    }
 
 pub put_basis-requires : goal.put_basis-requires
 put_basis-requires c = (c.requires.1, c.requires.2)
 
 pub returns : goal.returns
 returns c =
-    let whole = let f = c.args.f in
+    let f = c.args.f in
     let n = c.args.n in
     let a = c.args.element in
     let v = normal_passed f n a c.build_basis-built.ensures c.if-not-built.false [] ∙ first-none in
-    let rows = normal-rows f n a c.build_basis-built.ensures c.if-not-built.false in (
-      ap issued.Done (c.put_basis.ensures.0 ∙ summary_table f n a c.build_basis-built.result.basis rows) ∙ answer-clear issued.Refused _ v,
-      c.put_basis.ensures.1 ∙ sheet_written f n a c.build_basis-built.result.basis c.args.buffer.now rows ∙ left-clear _ c.args.buffer.now v,
-    ) in record { answer = whole.0; written = whole.1 }
+    let rows = normal-rows f n a c.build_basis-built.ensures c.if-not-built.false in record {
+      answer = ap issued.Done (c.put_basis.ensures.summary ∙ summary_table f n a c.build_basis-built.result.basis rows) ∙ answer-clear issued.Refused _ v;
+      written = c.put_basis.ensures.written ∙ sheet_written f n a c.build_basis-built.result.basis c.args.buffer.now rows ∙ left-clear _ c.args.buffer.now v;
+    }

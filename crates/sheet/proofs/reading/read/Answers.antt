@@ -18,13 +18,13 @@ rebuild-requires c =
 pub returns-in-Refused : goal.returns-in-Refused
 unfolding read_answer read_report
 returns-in-Refused c =
-    let whole = let sheet = c.args.sheet.now in
-    issued_promised (first_of (read_order sheet)) (summary_in sheet)
+    let sheet = c.args.sheet.now in
+    let whole = issued_promised (first_of (read_order sheet)) (summary_in sheet)
     (answer-refused issued.Refused _ (part-refuses (shape_order sheet) (rebuild_order sheet) c.shape_verdict-shape.ensures c.in-Refused.is)) in record { answer = whole.0; report = whole.1 }
 
 pub returns-in-Done : goal.returns-in-Done
 unfolding read_answer read_report
 returns-in-Done c =
-    let whole = let sheet = c.args.sheet.now in
-    issued_promised (first_of (read_order sheet)) (summary_in sheet)
+    let sheet = c.args.sheet.now in
+    let whole = issued_promised (first_of (read_order sheet)) (summary_in sheet)
     (c.rebuild.ensures ∙ ap (λ (w : Verdict). issued_of w (summary_in sheet)) (sym (part-passes (shape_order sheet) (rebuild_order sheet) c.shape_verdict-shape.ensures c.in-Done.is))) in record { answer = whole.0; report = whole.1 }
