@@ -1,5 +1,6 @@
 -- `field::judging::degree_verdict` meets its contract: one condition, and nothing after it.
 -- Assumes nothing.
+use mathlib.Core.List.{[]}
 use mathlib.Core.Path.{sym, ap, ◌∙◌}
 use Rattle.refusals.specs.Answers.{checked_of}
 use Rattle.refusals.specs.Answered.{answer-clear}

@@ -1,5 +1,6 @@
 -- `field::judging::operands_verdict` meets its contract: 1, then 4.
 -- Assumes nothing.
+use mathlib.Core.List.{[]}
 use mathlib.Core.Path.{sym, ap, ◌∙◌}
 use mathlib.Core.List.{◌∷◌}
 use native.Mathlib.Omega.{arith}

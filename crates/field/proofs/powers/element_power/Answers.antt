@@ -1,11 +1,11 @@
 use mathlib.Core.Path.{◌≡◌, sym, ◌∙◌}
-use mathlib.Core.Logic.{⊎_elim}
 use Prim.Native.Nat.{◌/◌, ◌^◌, ◌<◌}
 use native.Mathlib.Omega.{arith}
 use Rattle.gf2.specs.Poly.{mul_mod}
 use Rattle.field.specs.Field.{pow_mod}
 use Rattle.field.specs.Ring.{mul_mod-lt, mul_mod-one_l, two-lt}
 use Rattle.field.specs.Frobenius.{pow_mod-lt, pow_mod-picked, pow_mod_passed, pow_mod_finished}
+use Rattle.field.proofs.powers.element_power.Goals.{then-rest-eq1, else-rest-eq1}
 use Rattle.field.proofs.powers.element_power.Goals as goal
 
 pub loop-rest-init : goal.loop-rest-init
@@ -30,10 +30,16 @@ loop-rest-preserved c =
     let y = c.loop-rest.power in
     let a = c.loop-rest.conjugate in
     let t : (c.if-rest-eq1.power < 2 ^ n) × (mul_mod f n c.if-rest-eq1.power (pow_mod f n (mul_mod f n a a) (c.loop-rest.rest / 2)) ≡ mul_mod f n y (pow_mod f n a c.loop-rest.rest)) =
-    ⊎_elim
-    (λ u. (rw (u.2, u.1.ensures) (mul_mod-lt f n r.is_degree y a), rw (u.2, u.1.ensures) (pow_mod-picked f n r.is_degree r.two y a c.loop-rest.rest u.0.taken)))
-    (λ u. (rw u.1 c.loop-rest.invariant.0, rw u.1 (pow_mod_passed f n r.is_degree r.two y a c.loop-rest.rest u.0.left)))
-    c.if-rest-eq1.branch in
+    elim c.if-rest-eq1.branch [
+      then-rest-eq1 w ↦ (
+        rw (w.power-is, w.multiply-power.ensures) (mul_mod-lt f n r.is_degree y a),
+        rw (w.power-is, w.multiply-power.ensures) (pow_mod-picked f n r.is_degree r.two y a c.loop-rest.rest w.if-rest-eq1.true),
+      )
+      | else-rest-eq1 w ↦ (
+        rw w.power-is c.loop-rest.invariant.0,
+        rw w.power-is (pow_mod_passed f n r.is_degree r.two y a c.loop-rest.rest w.if-rest-eq1.false),
+      )
+    ] in
     (t.0, rw c.multiply-conjugate.ensures (mul_mod-lt f n r.is_degree a a), rw c.multiply-conjugate.ensures t.1 ∙ c.loop-rest.invariant.2)
 
 pub returns : goal.returns

@@ -1,5 +1,6 @@
 -- `matrices::reading::read_built` meets its contract: 5, or the text compared with the matrices of the basis.
 -- Assumes nothing.
+use mathlib.Core.List.{[]}
 use mathlib.Core.Path.{ap, ◌∙◌}
 use mathlib.Core.List.{◌∷◌}
 use native.Mathlib.Omega.{arith}

@@ -1,5 +1,6 @@
 -- `matrices::reading::read_matrices` meets its contract: 1 and 4, then the rest.
 -- Assumes nothing.
+use mathlib.Core.List.{[]}
 use mathlib.Core.List.{◌∷◌, ◌++◌}
 use Rattle.gf2.specs.Poly.{degree}
 use Rattle.refusals.specs.Verdicts.{first_of}

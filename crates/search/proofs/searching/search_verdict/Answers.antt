@@ -1,5 +1,6 @@
 -- `search::searching::search_verdict` meets its contract: 1 and 4, then 12, 2 and 3.
 -- Assumes nothing.
+use mathlib.Core.List.{[]}
 use mathlib.Core.List.{◌∷◌}
 use Rattle.refusals.specs.Orders.{first-clear}
 use Rattle.refusals.specs.Answered.{judged_clear, then_refused, then_rest}

@@ -1,5 +1,6 @@
 -- `sheet::building::build` meets its contract: it judges, and then works.
 -- Assumes nothing.
+use mathlib.Core.List.{[]}
 use mathlib.Core.List.{◌∷◌}
 use lib.ListN.{length}
 use Rattle.gf2.specs.Poly.{degree}

@@ -1,5 +1,6 @@
 -- `sheet::building::build_judged` meets its contract: 5, or the sheet.
 -- Assumes nothing.
+use mathlib.Core.List.{[]}
 use mathlib.Core.Path.{ap, ◌∙◌}
 use native.Mathlib.Omega.{arith}
 use lib.Pow.{pow_mono}

@@ -1,5 +1,6 @@
 -- `sheet::building::build_verdict` meets its contract: 1 and 4, then 6, 2 and 3.
 -- Assumes nothing.
+use mathlib.Core.List.{[]}
 use mathlib.Core.Path.{ap, ◌∙◌}
 use mathlib.Core.List.{◌∷◌}
 use Prim.Native.Nat.{ℕ}

@@ -1,5 +1,6 @@
 -- `sheet::converting::values_verdict` meets its contract: the shape, then 4.
 -- Assumes nothing.
+use mathlib.Core.List.{[]}
 use mathlib.Core.List.{◌∷◌}
 use native.Mathlib.Omega.{arith}
 use Rattle.refusals.specs.Verdicts.{first_of}

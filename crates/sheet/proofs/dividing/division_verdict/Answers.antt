@@ -1,5 +1,6 @@
 -- `sheet::dividing::division_verdict` meets its contract: the shape and 4, then 13.
 -- Assumes nothing.
+use mathlib.Core.List.{[]}
 use mathlib.Core.List.{◌∷◌}
 use Rattle.refusals.specs.Answered.{then_refused, then_rest}
 use Rattle.sheet.specs.Orders.{value_order, zero_rule}

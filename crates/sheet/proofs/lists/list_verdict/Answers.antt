@@ -1,5 +1,6 @@
 -- `sheet::lists::list_verdict` meets its contract: the shape, then 11.
 -- Assumes nothing.
+use mathlib.Core.List.{[]}
 use mathlib.Core.List.{◌∷◌}
 use Rattle.refusals.specs.Answered.{then_refused, then_rest}
 use Rattle.sheet.specs.Orders.{list_rule, shape_order}
