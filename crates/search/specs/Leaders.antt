@@ -4,7 +4,7 @@
 use Rattle.std.specs.Prelude.{◌≡◌, refl, ◌↔◌, Bool, true, false, not, ltb}
 use Rattle.std.proofs.Common.{sym, ap, ◌∙◌, ⊎_elim, le_refl, arith, lt-ltb, ltb-true}
 use Prim.Native.Nat.{ℕ, zero, suc, ◌+◌, ◌-◌, ◌^◌, ◌≤◌, ◌<◌}
-use Rattle.std.proofs.lemmas.Bool.{not_true}
+use Rattle.std.proofs.lemmas.Bool.{not-true}
 use Rattle.gf2.specs.Poly.{Degree}
 use Rattle.gf2.specs.Numbers.{order}
 use Rattle.gf2.specs.Bounded.{some}
@@ -27,7 +27,7 @@ pub leader-means : (f n a : ℕ) → (leader f n a ≡ true) ↔ ((i : ℕ) → 
 unfolding leader smaller
 leader-means f n a = (
   λ e i h. ⊎_elim
-      (λ (l : squared f n i a < a). absurd ((none-means n (smaller f n a)).0 (not_true (some n (smaller f n a)) e) i h (lt-ltb (squared f n i a) a l)))
+      (λ (l : squared f n i a < a). absurd ((none-means n (smaller f n a)).0 (not-true (some n (smaller f n a)) e) i h (lt-ltb (squared f n i a) a l)))
       (λ (l : a ≤ squared f n i a). l)
       (order (squared f n i a) a),
   λ all. ap not ((none-means n (smaller f n a)).1 (λ i h e. omega (arith, all i h, ltb-true (squared f n i a) a e))),

@@ -1,7 +1,7 @@
 -- `elements::deciding::decide_by_basis` meets its contract: the basis says whether y is normal, and gives its complexity.
 -- Assumes nothing.
 use Rattle.std.proofs.Common.{◌≡◌, true, sym, ◌∙◌}
-use borrow.Author.Tests.{not_true, not-false}
+use borrow.Author.Tests.{not-true, not-false}
 use Rattle.normal.specs.Normal.{normal, table_rows, complexity}
 use Rattle.elements.specs.Ones.{within_exact}
 use Rattle.elements.specs.Built.{built_normal, built_complexity}
@@ -11,7 +11,7 @@ pub returns-then-not-built : goal.returns-then-not-built
 returns-then-not-built c =
     λ bound.
     sym (built_normal c.args.f c.args.n c.args.y c.build_basis-built.result c.build_basis-built.ensures)
-    ∙ not_true c.build_basis-built.result.normal c.if-not-built.true
+    ∙ not-true c.build_basis-built.result.normal c.if-not-built.true
 
 pub returns : goal.returns
 returns c =

@@ -6,7 +6,7 @@ use Rattle.normal.specs.Filling.{Filled}
 use Rattle.elements.proofs.squares.square_rows.Given as goal
 
 -- the square of x ^ i
-abbrev row : (f n i : ℕ) → ℕ
+abbrev pub row : (f n i : ℕ) → ℕ
 row f n i = mul_mod f n (2 ^ i) (2 ^ i)
 
 abbrev pub invariant-loop-i : goal.invariant-loop-i

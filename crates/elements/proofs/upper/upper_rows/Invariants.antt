@@ -7,7 +7,7 @@ use Rattle.elements.specs.Reference.{through}
 use Rattle.elements.proofs.upper.upper_rows.Given as goal
 
 -- the coordinates of x ^ (n + i)
-abbrev row : (f n : ℕ) (sums : List ℕ) (i : ℕ) → ℕ
+abbrev pub row : (f n : ℕ) (sums : List ℕ) (i : ℕ) → ℕ
 row f n sums i = through sums (rem f n (2 ^ i * 2 ^ n))
 
 abbrev pub invariant-loop-i : goal.invariant-loop-i

@@ -3,7 +3,7 @@
 use mathlib.Core.Path.{◌≡◌}
 use mathlib.Core.List.{List}
 use Prim.Native.Nat.{ℕ}
-use borrow.Author.Tests.{not_true, not-false}
+use borrow.Author.Tests.{not-true, not-false}
 use Rattle.gf2.specs.Poly.{Element}
 use Rattle.rows.specs.Rows.{Matrix}
 use Rattle.normal.specs.Normal.{conjugates, padded}
@@ -21,7 +21,7 @@ invert-inverted-requires c =
 
 pub returns-then-not-inverted : goal.returns-then-not-inverted
 returns-then-not-inverted c =
-    built_dependent c.args.f c.args.n c.args.a c.requires.2.is_degree c.requires.1 c.requires.2.below c.invert-inverted.result (rw c.conjugates_of-conjugates.ensures at c.invert-inverted.ensures) (not_true c.invert-inverted.result.independent c.if-not-inverted.true)
+    built_dependent c.args.f c.args.n c.args.a c.requires.2.is_degree c.requires.1 c.requires.2.below c.invert-inverted.result (rw c.conjugates_of-conjugates.ensures at c.invert-inverted.ensures) (not-true c.invert-inverted.result.independent c.if-not-inverted.true)
 
 pub table_of-table-requires : goal.table_of-table-requires
 table_of-table-requires c =

@@ -9,7 +9,7 @@ use Rattle.normal.specs.Filling.{Filled}
 use Rattle.normal.proofs.basis.table_of.Given as goal
 
 -- the coordinates of c_0 times c_i
-abbrev row : (f n : ℕ) (conjugates inverse : List ℕ) → ℕ → ℕ
+abbrev pub row : (f n : ℕ) (conjugates inverse : List ℕ) → ℕ → ℕ
 row f n conjugates inverse i = comb inverse (mul_mod f n (get_or conjugates 0 0) (get_or conjugates i 0))
 
 abbrev pub invariant-loop-i : goal.invariant-loop-i

@@ -1,7 +1,7 @@
 -- `search::walking::is_trace_leader` meets its contract: the two tests are the definition's.
 -- Assumes nothing.
 use mathlib.Core.Path.{sym, ◌∙◌}
-use borrow.Author.Tests.{not_true, not-false}
+use borrow.Author.Tests.{not-true, not-false}
 use Rattle.search.specs.Begun.{trace-leader_with, trace-leader_without}
 use Rattle.search.proofs.walking.is_trace_leader.Goals as goal
 
@@ -11,7 +11,7 @@ has_trace-requires c = (c.requires.0.of_modulus, c.requires.1)
 pub returns-then-not-has_trace : goal.returns-then-not-has_trace
 returns-then-not-has_trace c =
     let m = c.args.m in
-    trace-leader_without m.f m.n c.args.a (sym c.has_trace.ensures ∙ not_true c.has_trace.result c.if-not-has_trace.true)
+    trace-leader_without m.f m.n c.args.a (sym c.has_trace.ensures ∙ not-true c.has_trace.result c.if-not-has_trace.true)
 
 pub is_leader-requires : goal.is_leader-requires
 is_leader-requires c =

@@ -6,7 +6,7 @@ use Rattle.sheet.specs.Lists.{FilledTo}
 use Rattle.sheet.proofs.lists.copy.Given as goal
 
 -- copying is converting by the map that leaves each value as it is
-abbrev same : ℕ → ℕ
+abbrev pub same : ℕ → ℕ
 same x = x
 
 abbrev pub invariant-loop-i : goal.invariant-loop-i

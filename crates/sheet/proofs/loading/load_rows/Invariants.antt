@@ -6,7 +6,7 @@ use Rattle.normal.specs.Filling.{Filled}
 use Rattle.sheet.specs.Record.{record_count, word_size, column_in}
 use Rattle.sheet.proofs.loading.load_rows.Given as goal
 
-abbrev row : (sheet : List ℕ) (at : ℕ) → ℕ → ℕ
+abbrev pub row : (sheet : List ℕ) (at : ℕ) → ℕ → ℕ
 row sheet at i = column_in sheet i at word_size
 
 abbrev pub invariant-loop-i : goal.invariant-loop-i

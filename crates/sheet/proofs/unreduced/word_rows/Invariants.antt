@@ -9,7 +9,7 @@ use Rattle.sheet.specs.Unreduced.{in_normal, word_bits}
 use Rattle.sheet.proofs.unreduced.word_rows.Given as goal
 
 -- row i
-abbrev row : (f n : ℕ) (rows : List ℕ) → ℕ → ℕ
+abbrev pub row : (f n : ℕ) (rows : List ℕ) → ℕ → ℕ
 row f n rows i = in_normal f n rows (2 ^ i)
 
 abbrev pub invariant-loop-i : goal.invariant-loop-i
