@@ -8,7 +8,7 @@ use Rattle.words.specs.Notation.{parts}
 use Rattle.words.specs.Spelling.{number-below}
 use Rattle.words.specs.Parts.{end-within}
 use Rattle.words.specs.Exponents.{summed-exponents, sum_room, exponents_stop, exponents-last, exponents-later}
-use Rattle.words.proofs.polynomials.exponents.Goals.{After-part_end-end, After-power-sum, Else-end-word, In-Number-2}
+use Rattle.words.proofs.polynomials.exponents.Goals.{After-part_end-end, After-power-sum, Else-end-word, In-Number}
 use Rattle.words.proofs.polynomials.exponents.Goals as goal
 
 -- the part ends inside the word
@@ -36,22 +36,22 @@ returns-in_default c =
     (sym c.exponent.ensures ∙ c.in_default.is)
 
 -- the exponent that was read is below the bound
-below : (c : In-Number-2) → c.in-Number.value < c.loop-value.bound
+below : (c : In-Number) → c.in-Number.value < c.loop-value.bound
 below c =
     number-below 10 c.loop-value.bound _ c.in-Number.value (sym c.exponent.ensures ∙ c.in-Number.is)
 
 -- the sum with its power keeps room for that power
-room : (c : After-power-sum)
+room : (c : After-power-sum) → c.in-Number.value < c.loop-value.bound
     → c.loop-value.sum + c.power-sum.result + c.power-sum.result ≤ 2 ^ 64
-room c =
-    rw c.power-sum.ensures (sum_room c.loop-value.bound c.loop-value.sum c.in-Number.value (below c.before.before) c.loop-value.invariant.2)
+room c b =
+    rw c.power-sum.ensures (sum_room c.loop-value.bound c.loop-value.sum c.in-Number.value b c.loop-value.invariant.2)
 
 pub power-sum-requires : goal.power-sum-requires
-power-sum-requires c = omega (arith, below (goal.at.power-sum-requires c).In-Number-2)
+power-sum-requires c = omega (arith, below (goal.at.power-sum-requires c).In-Number)
 
 pub overflow_add-sum : goal.overflow_add-sum
 overflow_add-sum c =
-    omega (arith, room (goal.at.overflow_add-sum c).After-power-sum, c.power-sum.ensures, pow_pos c.in-Number.value)
+    omega (arith, room (goal.at.overflow_add-sum c).After-power-sum (below (goal.at.overflow_add-sum c).In-Number), c.power-sum.ensures, pow_pos c.in-Number.value)
 
 pub returns-then-end-word : goal.returns-then-end-word
 returns-then-end-word c =
@@ -60,21 +60,21 @@ returns-then-end-word c =
     c.in-Number.value (sym c.exponent.ensures ∙ c.in-Number.is) c.if-end-word.true)
 
 -- a part after this one starts inside the word
-starts : (c : Else-end-word) → c.part_end-end.result
+starts : (c : Else-end-word) → c.part_end-end.result ≤ length c.args.word.now → c.part_end-end.result
     < length c.args.word.now
-starts c = lt_of_le-ne (ends c.before.before.before.before.before.before.before) c.if-end-word.false
+starts c inside = lt_of_le-ne inside c.if-end-word.false
 
 pub overflow_add-start : goal.overflow_add-start
-overflow_add-start c = omega (arith, starts (goal.at.overflow_add-start c).Else-end-word)
+overflow_add-start c = omega (arith, starts (goal.at.overflow_add-start c).Else-end-word (ends (goal.at.overflow_add-start c).After-part_end-end))
 
 pub loop-value-smaller : goal.loop-value-smaller
-loop-value-smaller c = omega (arith, starts (goal.at.loop-value-smaller c).Else-end-word, c.part_end-end.ensures)
+loop-value-smaller c = omega (arith, starts (goal.at.loop-value-smaller c).Else-end-word (ends (goal.at.loop-value-smaller c).After-part_end-end), c.part_end-end.ensures)
 
 pub loop-value-preserved : goal.loop-value-preserved
 loop-value-preserved c = (
-  omega (arith, starts (goal.at.loop-value-preserved c).Else-end-word),
-  omega (arith, below (goal.at.loop-value-preserved c).In-Number-2, c.loop-value.invariant.1),
-  rw (← c.power-sum.ensures) (room (goal.at.loop-value-preserved c).After-power-sum),
+  omega (arith, starts (goal.at.loop-value-preserved c).Else-end-word (ends (goal.at.loop-value-preserved c).After-part_end-end)),
+  omega (arith, below (goal.at.loop-value-preserved c).In-Number, c.loop-value.invariant.1),
+  rw (← c.power-sum.ensures) (room (goal.at.loop-value-preserved c).After-power-sum (below (goal.at.loop-value-preserved c).In-Number)),
   rw c.power-sum.ensures
       (exponents-later c.args.word.now c.loop-value.start c.part_end-end.result c.loop-value.invariant.0 c.part_end-end.ensures c.loop-value.bound c.loop-value.sum c.loop-value.invariant.3
       c.in-Number.value (sym c.exponent.ensures ∙ c.in-Number.is) c.if-end-word.false),
