@@ -4,7 +4,7 @@ use Rattle.std.proofs.Common.{◌≡◌, ◌+◌, ◌^◌, ◌<◌, arith}
 use Rattle.gf2.specs.Poly.{mul_mod}
 use Rattle.elements.specs.Reference.{through}
 use Rattle.elements.specs.Through.{through-lt, witness_vanishes, witness_inverse, through-normal}
-use Rattle.elements.proofs.deciding.decide.Goals.{In-Inverse-2}
+use Rattle.elements.proofs.deciding.decide.Goals.{In-Inverse}
 use Rattle.elements.proofs.deciding.decide.Goals as goal
 
 pub unit_of-witness-requires : goal.unit_of-witness-requires
@@ -17,15 +17,14 @@ pub decide_by_basis-requires : goal.decide_by_basis-requires
 decide_by_basis-requires c = record { of_field = c.requires.0.reference.of_field; below = c.requires.1 }
 
 -- the inverse that the witness is
-inverse : (k : In-Inverse-2) → (k.in-Inverse.r < 2 ^ k.args.m.n) × (mul_mod (2 ^ k.args.m.n + 1) k.args.m.n k.in-Inverse.r (through k.args.sums.now k.args.y) ≡ 1)
+inverse : (k : In-Inverse) → (k.in-Inverse.r < 2 ^ k.args.m.n) × (mul_mod (2 ^ k.args.m.n + 1) k.args.m.n k.in-Inverse.r (through k.args.sums.now k.args.y) ≡ 1)
 inverse k =
-    let k.before.before.before.before = k.before.before.before.before in
     let m = k.args.m in
     witness_inverse m.f m.n k.args.sums.now k.requires.0.reference k.args.y k.requires.1
     k.sum_by_bytes.result k.sum_by_bytes.ensures k.unit_of-witness.result k.unit_of-witness.ensures _ k.in-Inverse.is
 
 pub ones_within-requires : goal.ones_within-requires
-ones_within-requires c = (c.requires.0, c.requires.1, inverse (goal.at.ones_within-requires c).In-Inverse-2)
+ones_within-requires c = (c.requires.0, c.requires.1, inverse (goal.at.ones_within-requires c).In-Inverse)
 
 pub returns-in-Unknown : goal.returns-in-Unknown
 returns-in-Unknown c = c.decide_by_basis.ensures c.args.bound
@@ -39,4 +38,4 @@ returns-in-Vanishes c =
 pub returns-in-Inverse : goal.returns-in-Inverse
 returns-in-Inverse c =
     let m = c.args.m in
-    (through-normal m.f m.n c.args.sums.now c.requires.0.reference c.args.y c.requires.1 _ (inverse (goal.at.returns-in-Inverse c).In-Inverse-2).1, c.ones_within.ensures)
+    (through-normal m.f m.n c.args.sums.now c.requires.0.reference c.args.y c.requires.1 _ (inverse (goal.at.returns-in-Inverse c).In-Inverse).1, c.ones_within.ensures)

@@ -51,8 +51,6 @@ row_through-row-requires c = limit-roomy c.args.m.n c.requires.0.reference.of_fi
 -- the row that is made
 row_is : (t : After-row_through-row) → t.row_through-row.result ≡ mul_mod (2 ^ t.args.m.n + 1) t.args.m.n (through t.args.sums.now (mul_mod t.args.m.f t.args.m.n t.args.y t.square_by_bytes-c.result)) t.args.r
 row_is t =
-    let t.before.before.before = t.before.before.before in
-    let t.before.before.before.before.before.before.before.before.before.before = t.before.before.before.before.before.before.before.before.before.before in
     let m = t.args.m in
     t.row_through-row.ensures m.f t.args.y t.args.r
     (record {

@@ -15,7 +15,6 @@ use Rattle.elements.proofs.reference.row_through.Goals as goal
 coordinates : (c : After-sum_by_bytes-2) → (f y r : ℕ) → RowTables f c.args.n y r c.args.sums.now c.args.uppers.now c.args.ys.now c.args.rs.now → c.args.c < 2 ^ c.args.n
     → bit_xor c.sum_by_bytes.result c.sum_by_bytes-2.result ≡ through c.args.sums.now (mul_mod f c.args.n y c.args.c)
 coordinates c f y r t h =
-    let c.before.before.before = c.before.before.before in
     ap₂ bit_xor c.sum_by_bytes.ensures c.sum_by_bytes-2.ensures
     ∙ wide-coordinates f c.args.n c.args.sums.now t.reference c.args.uppers.now t.of_uppers y c.args.c
     c.wide_product-wide.result.low c.wide_product-wide.result.high

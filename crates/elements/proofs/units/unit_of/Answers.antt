@@ -15,7 +15,6 @@ below c =
 -- the product that is tested
 tested : (c : After-multiply-product) → c.multiply-product.result ≡ mul_mod (2 ^ c.args.n + 1) c.args.n c.chosen-w.result c.args.v
 tested c =
-    let c.before.before.before.before.before.before.before = c.before.before.before.before.before.before.before in
     c.multiply-product.ensures ∙ ap (λ (g : ℕ). mul_mod g c.args.n c.chosen-w.result c.args.v) c.turn_modulus.ensures
 
 pub multiply-product-requires : goal.multiply-product-requires
