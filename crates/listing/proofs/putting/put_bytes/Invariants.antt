@@ -8,7 +8,7 @@ use Rattle.sheet.specs.Bytes.{pasted}
 use Rattle.listing.proofs.putting.put_bytes.Given as goal
 
 -- the first k bytes are put
-abbrev Front : (start : List ℕ) (at : ℕ) (bytes text : List ℕ) (k : ℕ) → Type 0
+abbrev pub Front : (start : List ℕ) (at : ℕ) (bytes text : List ℕ) (k : ℕ) → Type 0
 Front start at bytes text k = (k ≤ length bytes) × (text ≡ pasted start at (take k bytes))
 
 abbrev pub invariant-loop-k : goal.invariant-loop-k

@@ -26,8 +26,8 @@ put_last-requires c =
 pub returns-in-Refused : goal.returns-in-Refused
 returns-in-Refused c =
     let whole = listed-refused c.args.sheet.now c.in-Refused.refusal (sym c.read.ensures.answer ∙ c.in-Refused.is)
-    c.Put-refused.ensures.0 c.why.ensures.answer c.put_cause.ensures.put in record { size = whole.0; listed = whole.1; counted = whole.2 }
+    c.Put-refused.ensures.0 c.why.ensures.answer c.put_cause.ensures.put in record { size = whole.0; listed = whole.1.0; counted = whole.1.1 }
 
 pub returns-in-Done : goal.returns-in-Done
 returns-in-Done c =
-    let whole = listed-done c.args.sheet.now c.in-Done.summary (sym c.read.ensures.answer ∙ c.in-Done.is) c.put_rows-at.ensures.put c.put_last.ensures in record { size = whole.0; listed = whole.1; counted = whole.2 }
+    let whole = listed-done c.args.sheet.now c.in-Done.summary (sym c.read.ensures.answer ∙ c.in-Done.is) c.put_rows-at.ensures.put c.put_last.ensures in record { size = whole.0; listed = whole.1.0; counted = whole.1.1 }

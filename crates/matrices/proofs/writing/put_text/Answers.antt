@@ -53,7 +53,7 @@ loop-k-smaller c = omega (arith, c.loop-k-test.true)
 pub loop-k-preserved : goal.loop-k-preserved
 loop-k-preserved c = (
   omega (arith, c.loop-k-test.true),
-  matrices-next c.args.text.now c.args.n (turned c.args.n c.args.rows.now) (room (goal.at.loop-k-preserved c).Start) c.loop-k.k c.loop-k.text c.loop-k.invariant.1 (within (goal.at.loop-k-preserved c).At-loop-k) c.put_matrix.new.1.1.1.0
+  matrices-next c.args.text.now c.args.n (turned c.args.n c.args.rows.now) (room (goal.at.loop-k-preserved c).Start) c.loop-k.k c.loop-k.text c.loop-k.invariant.1 (within (goal.at.loop-k-preserved c).At-loop-k) c.put_matrix.new.n.1.1.0
       (c.put_matrix.ensures ∙ ap (λ (x : ℕ). pasted c.loop-k.text x (matrix_bytes c.args.n (turned c.args.n c.args.rows.now c.loop-k.k))) (place (goal.at.loop-k-preserved c).At-loop-k)),
 )
 

@@ -12,4 +12,4 @@ write_accepted-requires c = sym c.read.ensures.answer ∙ c.in-Done.is
 pub returns-in-Refused : goal.returns-in-Refused
 returns-in-Refused c =
     let whole = write_refused c.args.sheet.now c.args.text.now
-    (write_refused_as_read c.args.sheet.now (length c.args.text.now) c.in-Refused.refusal (sym c.read.ensures.answer ∙ c.in-Refused.is)) in record { answer = whole.0; report = whole.1; written = whole.2 }
+    (write_refused_as_read c.args.sheet.now (length c.args.text.now) c.in-Refused.refusal (sym c.read.ensures.answer ∙ c.in-Refused.is)) in record { answer = whole.0; report = whole.1.0; written = whole.1.1 }

@@ -32,8 +32,8 @@ square_by_bytes-y-requires c = (
   },
 )
 
-pub overflow_add-i : goal.overflow_add-i
-overflow_add-i c = omega (arith, c.requires.1.of_field.most)
+pub overflow_add-i-in-loop-i : goal.overflow_add-i-in-loop-i
+overflow_add-i-in-loop-i c = omega (arith, c.requires.1.of_field.most)
 
 pub loop-i-preserved : goal.loop-i-preserved
 loop-i-preserved c =

@@ -11,7 +11,7 @@ has_trace-requires c = (c.requires.0.of_modulus, c.requires.1)
 pub returns-then-not-has_trace : goal.returns-then-not-has_trace
 returns-then-not-has_trace c =
     let m = c.args.m in
-    trace-leader_without m.f m.n c.args.a (sym c.has_trace.ensures ∙ not-true c.has_trace.result c.if-not-has_trace.true)
+    trace-leader_without m.f m.n c.args.a (sym c.has_trace.ensures ∙ c.if-not-has_trace.true)
 
 pub is_leader-requires : goal.is_leader-requires
 is_leader-requires c =
@@ -21,4 +21,4 @@ pub returns : goal.returns
 returns c =
     let m = c.args.m in
     c.is_leader.ensures
-    ∙ trace-leader_with m.f m.n c.args.a (sym c.has_trace.ensures ∙ not-false c.has_trace.result c.if-not-has_trace.false)
+    ∙ trace-leader_with m.f m.n c.args.a (sym c.has_trace.ensures ∙ c.if-not-has_trace.false)

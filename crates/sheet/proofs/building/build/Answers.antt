@@ -20,11 +20,11 @@ pub returns-in-Refused : goal.returns-in-Refused
 returns-in-Refused c =
     let whole = build-refused c.args.f c.args.element c.args.buffer.now
     (part-refuses (room_order c.args.f c.args.element (length c.args.buffer.now)) (normal_rule c.args.f (degree c.args.f) c.args.element ∷ [])
-    c.build_verdict-verdict.ensures c.in-Refused.is) in record { answer = whole.0; report = whole.1; written = whole.2 }
+    c.build_verdict-verdict.ensures c.in-Refused.is) in record { answer = whole.0; report = whole.1.0; written = whole.1.1 }
 
 pub returns-in-Done : goal.returns-in-Done
 returns-in-Done c =
     let whole = build-rest c.args.f c.args.element c.args.buffer.now c.degree_of.result c.degree_of.ensures
     (part-passes (room_order c.args.f c.args.element (length c.args.buffer.now)) (normal_rule c.args.f (degree c.args.f) c.args.element ∷ [])
     c.build_verdict-verdict.ensures c.in-Done.is)
-    c.build_judged.ensures.answer c.build_judged.ensures.written in record { answer = whole.0; report = whole.1; written = whole.2 }
+    c.build_judged.ensures.answer c.build_judged.ensures.written in record { answer = whole.0; report = whole.1.0; written = whole.1.1 }

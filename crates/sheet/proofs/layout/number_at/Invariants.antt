@@ -8,7 +8,7 @@ use Rattle.sheet.specs.Record.{number_in}
 use Rattle.sheet.proofs.layout.number_at.Given as goal
 
 -- number is what the bytes from k on hold
-abbrev Held : (sheet : List ℕ) (at size number k : ℕ) → Type 0
+abbrev pub Held : (sheet : List ℕ) (at size number k : ℕ) → Type 0
 Held sheet at size number k =
     (k ≤ size) × (number ≡ number_in (take (size - k) (drop (at + k) sheet))) × (number < 2 ^ (8 * (size - k)))
 

@@ -8,7 +8,7 @@ use Rattle.sheet.specs.Bytes.{pasted}
 use Rattle.sheet.proofs.layout.put_number.Given as goal
 
 -- the lowest k bytes are written
-abbrev Put : (start : List ℕ) (at size number : ℕ) (buffer : List ℕ) (rest k : ℕ) → Type 0
+abbrev pub Put : (start : List ℕ) (at size number : ℕ) (buffer : List ℕ) (rest k : ℕ) → Type 0
 Put start at size number buffer rest k = (k ≤ size) × (buffer ≡ pasted start at (bytes_of k number)) × (rest ≡ number / 256 ^ k)
 
 abbrev pub invariant-loop-k : goal.invariant-loop-k

@@ -21,11 +21,11 @@ unfolding polynomial_list_answer polynomial_list_report polynomial_list
 returns-in-Refused c =
     let order = polynomial_list_order c.args.sheet.now c.args.from.now (length c.args.into.now) in
     let p = checked_promised (first_of order) (judged_refused checked.Refused checked.Done (first_of order) c.polynomial_list_verdict-verdict.ensures c.in-Refused.is) in
-    let whole = (p.0, (p.1, left-refused _ c.args.into.now (judged_verdict (first_of order) c.polynomial_list_verdict-verdict.ensures c.in-Refused.is))) in record { answer = whole.0; report = whole.1; written = whole.2 }
+    record { answer = p.0; report = p.1; written = left-refused _ c.args.into.now (judged_verdict (first_of order) c.polynomial_list_verdict-verdict.ensures c.in-Refused.is) }
 
 pub returns-in-Done : goal.returns-in-Done
 unfolding polynomial_list_answer polynomial_list_report polynomial_list
 returns-in-Done c =
     let order = polynomial_list_order c.args.sheet.now c.args.from.now (length c.args.into.now) in
     let p = checked_promised (first_of order) (judged_done checked.Refused checked.Done (first_of order) c.polynomial_list_verdict-verdict.ensures c.in-Done.is) in
-    let whole = (p.0, (p.1, c.fill_polynomials.ensures ∙ left-clear _ c.args.into.now (judged_clear (first_of order) c.polynomial_list_verdict-verdict.ensures c.in-Done.is))) in record { answer = whole.0; report = whole.1; written = whole.2 }
+    record { answer = p.0; report = p.1; written = c.fill_polynomials.ensures ∙ left-clear _ c.args.into.now (judged_clear (first_of order) c.polynomial_list_verdict-verdict.ensures c.in-Done.is) }

@@ -49,7 +49,7 @@ overflow_add-i c = omega (arith, c.requires.0)
 pub loop-i-preserved : goal.loop-i-preserved
 loop-i-preserved c = (
   omega arith,
-  sheet_turn c.args.buffer.now c.loop-i.buffer c.put_record.new.0 c.loop-i.i c.args.n c.args.tail c.args.conjugates c.args.inverse c.args.table
+  sheet_turn c.args.buffer.now c.loop-i.buffer c.put_record.new.buffer c.loop-i.i c.args.n c.args.tail c.args.conjugates c.args.inverse c.args.table
       (omega (arith, c.requires.1, c.loop-i-test.true)) c.loop-i.invariant.1 c.put_record.ensures,
 )
 

@@ -49,7 +49,7 @@ loop-i-preserved c =
     let i = c.loop-i.i in
     let e = c.loop-i.invariant.2 in (
       omega arith,
-      filled_turn c.loop-i.words i c.word_Row.result (row f n rows) (omega arith) (made f n i c.word_Row.result c.loop-i.y rows c.word_Row.ensures e) c.loop-i.invariant.1,
+      filled_turn c.loop-i.words i c.word_row.result (row f n rows) (omega arith) (made f n i c.word_row.result c.loop-i.y rows c.word_row.ensures e) c.loop-i.invariant.1,
       power_turn f n c.requires.is_degree i c.loop-i.y c.multiply_by_x-y.result e c.multiply_by_x-y.ensures,
     )
 
