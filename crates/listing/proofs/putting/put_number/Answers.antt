@@ -16,18 +16,18 @@ bounds-text-end c =
       arith,
       c.requires,
       put-length c.put_bytes-end.ensures,
-      number-ends c.args.text.now c.decimal-count.new.out.0 c.put_bytes-end.new.text c.args.at c.args.number c.decimal-count.result c.put_bytes-end.result c.args.mark
+      number-ends c.args.text.now c.decimal-count.new.out c.put_bytes-end.new.text c.args.at c.args.number c.decimal-count.result c.put_bytes-end.result c.args.mark
           (search rules) c.decimal-count.ensures.len.0 c.decimal-count.ensures.len.1 c.decimal-count.ensures.in_bounds c.put_bytes-end.ensures c.requires,
     )
 
 pub returns : goal.returns
 returns c =
     record {
-      put = number_put c.args.text.now c.decimal-count.new.out.0 c.put_bytes-end.new.text c.args.at c.args.number c.decimal-count.result c.put_bytes-end.result c.args.mark
+      put = number_put c.args.text.now c.decimal-count.new.out c.put_bytes-end.new.text c.args.at c.args.number c.decimal-count.result c.put_bytes-end.result c.args.mark
           (search rules) c.decimal-count.ensures.len.0 c.decimal-count.ensures.len.1 c.decimal-count.ensures.in_bounds c.put_bytes-end.ensures c.requires;
       short = omega (
         arith,
-        number-ends c.args.text.now c.decimal-count.new.out.0 c.put_bytes-end.new.text c.args.at c.args.number c.decimal-count.result c.put_bytes-end.result c.args.mark
+        number-ends c.args.text.now c.decimal-count.new.out c.put_bytes-end.new.text c.args.at c.args.number c.decimal-count.result c.put_bytes-end.result c.args.mark
             (search rules) c.decimal-count.ensures.len.0 c.decimal-count.ensures.len.1 c.decimal-count.ensures.in_bounds c.put_bytes-end.ensures c.requires,
       );
     }

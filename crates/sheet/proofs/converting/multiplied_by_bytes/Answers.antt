@@ -16,13 +16,13 @@ load_sums-requires c = (c.requires.0, search rules)
 
 pub product_by_bytes-requires : goal.product_by_bytes-requires
 product_by_bytes-requires c =
-    (rw c.requires.1 (loaded_sums c.args.sheet.now c.requires.0 c.load_sums.new.sums.0 c.load_sums.ensures), c.requires.2, c.requires.3)
+    (rw c.requires.1 (loaded_sums c.args.sheet.now c.requires.0 c.load_sums.new.sums c.load_sums.ensures), c.requires.2, c.requires.3)
 
 pub returns : goal.returns
 unfolding through_table
 returns c =
     let sheet = c.args.sheet.now in
-    let sums = c.load_sums.new.sums.0 in
+    let sums = c.load_sums.new.sums in
     c.product_by_bytes.ensures
     ∙ ap (λ (m : ℕ). table_product m (summed_rows m sums) c.args.a c.args.b) c.requires.1
     ∙ ap (λ (rows : List ℕ). table_product (record_count sheet) rows c.args.a c.args.b) (loaded_rows sheet c.requires.0 sums c.load_sums.ensures)

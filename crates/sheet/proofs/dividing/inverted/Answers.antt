@@ -19,11 +19,11 @@ overflow_cast-sheet c = omega (arith, c.requires.0.size.most)
 
 pub inverse_of-requires : goal.inverse_of-requires
 inverse_of-requires c =
-    (loaded_sums c.args.sheet.now c.requires.0 c.load_sums.new.sums.0 c.load_sums.ensures, c.requires.0.size.two, c.requires.1)
+    (loaded_sums c.args.sheet.now c.requires.0 c.load_sums.new.sums c.load_sums.ensures, c.requires.0.size.two, c.requires.1)
 
 pub returns : goal.returns
 unfolding inverse_through
 returns c =
     let sheet = c.args.sheet.now in
     c.inverse_of.ensures
-    ∙ ap (λ (rows : List ℕ). inverse_of (record_count sheet) rows c.args.a) (loaded_rows sheet c.requires.0 c.load_sums.new.sums.0 c.load_sums.ensures)
+    ∙ ap (λ (rows : List ℕ). inverse_of (record_count sheet) rows c.args.a) (loaded_rows sheet c.requires.0 c.load_sums.new.sums c.load_sums.ensures)

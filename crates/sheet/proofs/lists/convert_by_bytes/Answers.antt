@@ -13,7 +13,7 @@ use Rattle.sheet.proofs.lists.convert_by_bytes.Goals as goal
 -- the list keeps its length
 kept : (l : At-loop-i) → length l.loop-i.list ≡ length l.args.list.now
 kept l =
-    fill-length (picked_bytes bytes l.byte_sums.new.sums.0) l.args.list.now l.args.list.now l.loop-i.list l.loop-i.i l.loop-i.invariant.0 refl l.loop-i.invariant.1
+    fill-length (picked_bytes bytes l.byte_sums.new.sums) l.args.list.now l.args.list.now l.loop-i.list l.loop-i.i l.loop-i.invariant.0 refl l.loop-i.invariant.1
 
 -- what the tables of the rows pick of small values is what the rows pick
 by_bits : (rows : List ℕ) {sums : List ℕ} → sums ≡ byte_sums bytes rows → (values : List ℕ) → ((i : ℕ) → i < length values → get_or values i 0 < 2 ^ limit)
@@ -37,7 +37,7 @@ loop-i-smaller c = omega (arith, kept (goal.at.loop-i-smaller c).At-loop-i)
 
 pub loop-i-preserved : goal.loop-i-preserved
 loop-i-preserved c =
-    let convert = picked_bytes bytes c.byte_sums.new.sums.0 in
+    let convert = picked_bytes bytes c.byte_sums.new.sums in
     let h : c.loop-i.i < length c.args.list.now = omega arith in
     (omega (arith, h), fill_turn convert c.args.list.now c.args.list.now c.loop-i.list c.loop-i.i c.sum_by_bytes.result h refl (c.sum_by_bytes.ensures ∙ ap convert (fill-rest convert c.args.list.now c.args.list.now c.loop-i.list c.loop-i.i h refl c.loop-i.invariant.1)) c.loop-i.invariant.1)
 
@@ -46,5 +46,5 @@ shape_of-list c = kept (goal.at.shape_of-list c).At-loop-i
 
 pub returns : goal.returns
 returns c =
-    fill_done (picked_bytes bytes c.byte_sums.new.sums.0) c.args.list.now c.args.list.now c.loop-i.list c.loop-i.i (omega arith) refl c.loop-i.invariant.1
+    fill_done (picked_bytes bytes c.byte_sums.new.sums) c.args.list.now c.args.list.now c.loop-i.list c.loop-i.i (omega arith) refl c.loop-i.invariant.1
     ∙ by_bits c.args.rows c.byte_sums.ensures c.args.list.now c.requires

@@ -13,7 +13,7 @@ use Rattle.sheet.proofs.unreduced.convert_words.Goals as goal
 -- the list keeps its length
 kept : (l : At-loop-i) → length l.loop-i.list ≡ length l.args.list.now
 kept l =
-    fill-length (picked_bytes word_bytes l.word_sums.new.sums.0) l.args.list.now l.args.list.now l.loop-i.list l.loop-i.i l.loop-i.invariant.0 refl l.loop-i.invariant.1
+    fill-length (picked_bytes word_bytes l.word_sums.new.sums) l.args.list.now l.args.list.now l.loop-i.list l.loop-i.i l.loop-i.invariant.0 refl l.loop-i.invariant.1
 
 -- what the tables of the rows pick of words
 by_rows : (f n : ℕ) → Degree f n → (rows words : List ℕ) {made sums : List ℕ} → made ≡ word_rows f n rows → sums ≡ byte_sums word_bytes made
@@ -42,7 +42,7 @@ loop-i-smaller c = omega (arith, kept (goal.at.loop-i-smaller c).At-loop-i)
 
 pub loop-i-preserved : goal.loop-i-preserved
 loop-i-preserved c =
-    let convert = picked_bytes word_bytes c.word_sums.new.sums.0 in
+    let convert = picked_bytes word_bytes c.word_sums.new.sums in
     let h : c.loop-i.i < length c.args.list.now = omega arith in
     (omega (arith, h), fill_turn convert c.args.list.now c.args.list.now c.loop-i.list c.loop-i.i c.sum_of_word.result h refl (c.sum_of_word.ensures ∙ ap convert (fill-rest convert c.args.list.now c.args.list.now c.loop-i.list c.loop-i.i h refl c.loop-i.invariant.1)) c.loop-i.invariant.1)
 
@@ -52,5 +52,5 @@ shape_of-list c = kept (goal.at.shape_of-list c).At-loop-i
 pub returns : goal.returns
 returns c =
     let words = c.args.list.now in
-    fill_done (picked_bytes word_bytes c.word_sums.new.sums.0) words words c.loop-i.list c.loop-i.i (omega arith) refl c.loop-i.invariant.1
+    fill_done (picked_bytes word_bytes c.word_sums.new.sums) words words c.loop-i.list c.loop-i.i (omega arith) refl c.loop-i.invariant.1
     ∙ by_rows c.args.f c.args.n c.requires.is_degree c.args.rows.now words c.word_rows.ensures c.word_sums.ensures (λ i h. omega (arith, c.slice_known-1.given i))
