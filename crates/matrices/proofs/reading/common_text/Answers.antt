@@ -24,7 +24,7 @@ low l =
 found : (c : After-common_matrix-lines)
     → c.common_matrix-lines.result ≡ common_lines (drop (c.loop-k.k * matrix_size c.args.n) c.args.text.now) (matrix_bytes c.args.n (turned c.args.n c.args.rows.now c.loop-k.k))
 found c =
-    c.common_matrix-lines.ensures ∙ ap (λ (p : ℕ). common_lines (drop p c.args.text.now) (matrix_bytes c.args.n (turned c.args.n c.args.rows.now c.loop-k.k))) (place c.before.before)
+    c.common_matrix-lines.ensures ∙ ap (λ (p : ℕ). common_lines (drop p c.args.text.now) (matrix_bytes c.args.n (turned c.args.n c.args.rows.now c.loop-k.k))) (ap (λ (x : ℕ). c.loop-k.k * x) c.matrix_size-size.ensures)
 
 pub loop-k-init : goal.loop-k-init
 loop-k-init c = (omega arith, text_start c.args.text.now c.args.n (turned c.args.n c.args.rows.now))

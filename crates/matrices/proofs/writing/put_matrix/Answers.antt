@@ -46,7 +46,7 @@ loop-i-smaller c = omega (arith, c.loop-i-test.true)
 
 pub loop-i-preserved : goal.loop-i-preserved
 loop-i-preserved c =
-    (omega (arith, c.loop-i-test.true), lines_next c.args.text.now c.args.at c.args.n (turned c.args.n c.args.rows.now c.args.k) c.requires.3 c.loop-i.i c.loop-i.text c.loop-i.invariant.1 (within (goal.at.loop-i-preserved c).At-loop-i) c.put_line.new.first.1.1.1.0 (unfold turned in c.put_line.ensures))
+    (omega (arith, c.loop-i-test.true), lines_next c.args.text.now c.args.at c.args.n (turned c.args.n c.args.rows.now c.args.k) c.requires.3 c.loop-i.i c.loop-i.text c.loop-i.invariant.1 (within (goal.at.loop-i-preserved c).At-loop-i) c.put_line.new.text (unfold turned in c.put_line.ensures))
 
 pub overflow_mul-text : goal.overflow_mul-text
 overflow_mul-text c = omega (arith, lines-size-most limit c.args.n c.args.n c.requires.1 (omega arith))

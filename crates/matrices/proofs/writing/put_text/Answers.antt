@@ -16,6 +16,10 @@ room : (s : Start) → s.args.n * matrix_size s.args.n ≤ length s.args.text.no
 unfolding text_size
 room s = s.requires.2
 
+room_in_loop : (l : At-loop-k) → l.args.n * matrix_size l.args.n ≤ length l.args.text.now
+unfolding text_size
+room_in_loop l = l.requires.2
+
 -- the place of a matrix
 place : (l : At-loop-k) → l.loop-k.k * l.matrix_size-size.result ≡ l.loop-k.k * matrix_size l.args.n
 place l = ap (λ (x : ℕ). l.loop-k.k * x) l.matrix_size-size.ensures
@@ -33,7 +37,7 @@ beyond l h =
 -- the text keeps its length
 kept : (l : At-loop-k) → length l.loop-k.text ≡ length l.args.text.now
 kept l =
-    matrices-kept l.args.text.now l.args.n (turned l.args.n l.args.rows.now) (room l.before.before.before) l.loop-k.k l.loop-k.text l.loop-k.invariant.1 (within l)
+    matrices-kept l.args.text.now l.args.n (turned l.args.n l.args.rows.now) (room_in_loop l) l.loop-k.k l.loop-k.text l.loop-k.invariant.1 (within l)
 
 pub loop-k-init : goal.loop-k-init
 loop-k-init c =
@@ -53,7 +57,7 @@ loop-k-smaller c = omega (arith, c.loop-k-test.true)
 pub loop-k-preserved : goal.loop-k-preserved
 loop-k-preserved c = (
   omega (arith, c.loop-k-test.true),
-  matrices-next c.args.text.now c.args.n (turned c.args.n c.args.rows.now) (room (goal.at.loop-k-preserved c).Start) c.loop-k.k c.loop-k.text c.loop-k.invariant.1 (within (goal.at.loop-k-preserved c).At-loop-k) c.put_matrix.new.n.1.1.0
+  matrices-next c.args.text.now c.args.n (turned c.args.n c.args.rows.now) (room (goal.at.loop-k-preserved c).Start) c.loop-k.k c.loop-k.text c.loop-k.invariant.1 (within (goal.at.loop-k-preserved c).At-loop-k) c.put_matrix.new.text
       (c.put_matrix.ensures ∙ ap (λ (x : ℕ). pasted c.loop-k.text x (matrix_bytes c.args.n (turned c.args.n c.args.rows.now c.loop-k.k))) (place (goal.at.loop-k-preserved c).At-loop-k)),
 )
 

@@ -32,4 +32,4 @@ pub returns : goal.returns
 returns c =
     let sheet = c.args.sheet.now in
     let h : text_size (record_count sheet) ≤ length c.args.text.now = omega (arith, c.text_size.ensures, c.if-text-text_size.false) in
-    let whole = write_done sheet c.args.text.now c.args.summary c.requires h c.load_rows-table.result c.rows_twice-rows.result c.put_text.new.n.1.0 c.load_rows-table.ensures c.rows_twice-rows.ensures c.put_text.ensures in record { answer = whole.0; report = whole.1.0; written = whole.1.1 }
+    let whole = write_done sheet c.args.text.now c.args.summary c.requires h c.load_rows-table.result c.rows_twice-rows.result c.put_text.new.text c.load_rows-table.ensures c.rows_twice-rows.ensures c.put_text.ensures in record { answer = whole.0; report = whole.1.0; written = whole.1.1 }
