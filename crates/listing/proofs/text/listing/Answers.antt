@@ -11,7 +11,7 @@ pub put_refused-at-requires : goal.put_refused-at-requires
 put_refused-at-requires c = omega (arith, refused_fits)
 
 pub put_cause-requires : goal.put_cause-requires
-put_cause-requires c = omega (arith, refused_fits, c.Put-refused.ensures.1, put-length c.Put-refused.ensures.0)
+put_cause-requires c = omega (arith, refused_fits, c.put_refused-at.ensures.short, put-length c.put_refused-at.ensures.put)
 
 pub put_rows-at-requires : goal.put_rows-at-requires
 put_rows-at-requires c =
@@ -26,7 +26,7 @@ put_last-requires c =
 pub returns-in-Refused : goal.returns-in-Refused
 returns-in-Refused c =
     let whole = listed-refused c.args.sheet.now c.in-Refused.refusal (sym c.read.ensures.answer ∙ c.in-Refused.is)
-    c.Put-refused.ensures.0 c.why.ensures.answer c.put_cause.ensures.put in record { size = whole.0; listed = whole.1.0; counted = whole.1.1 }
+    c.put_refused-at.ensures.put c.why.ensures.answer c.put_cause.ensures.put in record { size = whole.0; listed = whole.1.0; counted = whole.1.1 }
 
 pub returns-in-Done : goal.returns-in-Done
 returns-in-Done c =
