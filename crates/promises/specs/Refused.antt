@@ -35,7 +35,7 @@ use Rattle.promises.specs.Calls as calls
 use Rattle.promises.specs.Calls.{Run}
 use Rattle.promises.specs.Demand1.{check_is, multiply_is, square_is, trace_is, build_is, read_is, to-polynomial_is, to-normal_is, times_is, inverse_is, quotient_is, list-to-polynomial_is, list-to-normal_is, write_matrices_is, read-matrices_is, search_is}
 use Rattle.promises.specs.Listed.{OnValue, OnDivision, OnWords, OnList, OnWritingText, OnReadingText, multiply-listed, square-listed, trace-listed, check-listed, build-listed, search-listed, shape-positive, value-listed, value-positive, division_listed, division_positive, words_listed, words_positive, list-listed, list-positive, read-positive, write_listed, write_positive, text_listed, text_positive}
-use Rattle.refusals.specs.Told.{AtZero, Every, Told, ValueTold, CheckedTold, number_of, place_of}
+use Rattle.refusals.specs.Told.{AtZero, AllZero, Every, Told, ValueTold, CheckedTold, number_of, place_of}
 use Rattle.refusals.specs.Telling.{nonzero, placed-zero, at-zero-positive, told, value_told, checked_told}
 
 -- ---- the answers of build, reading and the search, by the verdict of an order
@@ -71,6 +71,17 @@ unfolding case_report
 answered_number x nothing = refl
 answered_number x (found y) = refl
 
+-- what a refusal reports beside its number and place is zero
+refused_search : (k p : ℕ) (x : Search)
+    → AllZero ((case_report (search_of (refuse k p) x)).element ∷ (case_report (search_of (refuse k p) x)).complexity ∷ (case_report (search_of (refuse k p) x)).grade ∷ (case_report (search_of (refuse k p) x)).count ∷ [])
+unfolding answer_of case_report refused_report
+refused_search k p x = (refl, (refl, (refl, (refl, tt))))
+
+refused_issue : (k p : ℕ) (s : Summary)
+    → AllZero ((issue_of (refuse k p) s).degree ∷ (issue_of (refuse k p) s).complexity ∷ (issue_of (refuse k p) s).grade ∷ [])
+unfolding issue_of
+refused_issue k p s = (refl, (refl, (refl, tt)))
+
 module _ (rs : List Rule) (P : ℕ → ℕ → Type 0) (all : Every P rs) (positive : (k p : ℕ) → P k p → 0 < k) where
   -- as the verdict's report has it, for the exports
   pub issue_told : (s : Summary)
@@ -78,7 +89,7 @@ module _ (rs : List Rule) (P : ℕ → ℕ → Type 0) (all : Every P rs) (posit
       ((issue_of (first_of rs) s).degree ∷ (issue_of (first_of rs) s).complexity ∷ (issue_of (first_of rs) s).grade ∷ [])
   issue_told s =
       told rs P _ _ _ _ all positive (done_issued (first_of rs) s) (number (first_of rs)) (place (first_of rs))
-      (λ k p e. rw e (unfold issue_of in (refl, (refl, (refl, tt)))))
+      (λ k p e. rw e (refused_issue k p s))
     where
       number : (v : Verdict) → (issue_of v s).number ≡ number_of v
       number clear = unfold issue_of number_of in refl
@@ -95,7 +106,7 @@ module _ (ks : List ℕ) (nz : nonzero ks ≡ true) (rs : List Rule) (all : Ever
   pub searched_told : (x : Search) → Answered x → SearchTold rs (AtZero ks) (search_of (first_of rs) x)
   searched_told x h =
       told rs (AtZero ks) _ _ _ _ all (at-zero-positive ks nz) (done_searched (first_of rs) x h) (number (first_of rs)) (placed-zero ks rs all)
-      (λ k p e. rw e (unfold answer_of case_report refused_report in (refl, (refl, (refl, (refl, tt))))))
+      (λ k p e. rw e (refused_search k p x))
     where
       number : (v : Verdict) → (case_report (search_of v x)).number ≡ number_of v
       number clear = unfold answer_of number_of in answered_number x h

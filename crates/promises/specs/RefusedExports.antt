@@ -35,7 +35,7 @@ use Rattle.promises.specs.Calls.{Run}
 use Rattle.promises.specs.Exports.{desk_check_is, desk_multiply_is, desk_square_is, desk_trace_is, desk_build_is, desk_read_is, desk_to-polynomial_is, desk_to-normal_is, desk_times_is, desk_inverse_is, desk_quotient_is, desk_list-to-polynomial_is, desk_list-to-normal_is, desk_write_matrices_is, desk_read-matrices_is, desk_search_is}
 use Rattle.promises.specs.Listed.{OnValue, OnDivision, OnWords, OnList, OnWritingText, OnReadingText, multiply-listed, square-listed, trace-listed, check-listed, build-listed, search-listed, shape-positive, value-listed, value-positive, division_listed, division_positive, words_listed, words_positive, list-listed, list-positive, read-positive, write_listed, write_positive, text_listed, text_positive}
 use Rattle.promises.specs.Refused.{issue_told, done_searched, answered_number}
-use Rattle.refusals.specs.Told.{AtZero, Every, Told, number_of}
+use Rattle.refusals.specs.Told.{AtZero, AllZero, Every, Told, number_of}
 use Rattle.refusals.specs.Telling.{nonzero, placed-zero, at-zero-positive, told, report_told, done-value, done_checked}
 
 -- ---- the structs
@@ -53,13 +53,19 @@ DeskIssuedTold rs P r d = Told rs P ((t : Summary) × (r ≡ issued.Done t)) d.n
 abbrev pub DeskFoundTold : (rs : List Rule) → (ℕ → ℕ → Type 0) → Search → DeskFound → Type 0
 DeskFoundTold rs P r d = Told rs P (Answered r) d.number 0 (d.found ∷ d.element ∷ d.complexity ∷ d.grade ∷ d.count ∷ [])
 
+-- what a refusal leaves in the struct beside its number is zero
+refused_found : (k p : ℕ) (x : Search)
+    → AllZero (found_flag (search_of (refuse k p) x) ∷ (answers.report_of (refuse k p) x).element ∷ (answers.report_of (refuse k p) x).complexity ∷ (answers.report_of (refuse k p) x).grade ∷ (answers.report_of (refuse k p) x).count ∷ [])
+unfolding found_flag answer_of answers.report_of refused_report
+refused_found k p x = (refl, (refl, (refl, (refl, (refl, tt)))))
+
 module _ (ks : List ℕ) (nz : nonzero ks ≡ true) (rs : List Rule) (all : Every (AtZero ks) rs) where
   found_told : (x : Search) → Answered x
       → Told rs (AtZero ks) (Answered (search_of (first_of rs) x)) (answers.report_of (first_of rs) x).number 0
       (found_flag (search_of (first_of rs) x) ∷ (answers.report_of (first_of rs) x).element ∷ (answers.report_of (first_of rs) x).complexity ∷ (answers.report_of (first_of rs) x).grade ∷ (answers.report_of (first_of rs) x).count ∷ [])
   found_told x h =
       told rs (AtZero ks) _ _ _ _ all (at-zero-positive ks nz) (done_searched (first_of rs) x h) (number (first_of rs)) (placed-zero ks rs all)
-      (λ k p e. rw e (unfold found_flag answer_of answers.report_of refused_report in (refl, (refl, (refl, (refl, (refl, tt)))))))
+      (λ k p e. rw e (refused_found k p x))
     where
       number : (v : Verdict) → (answers.report_of v x).number ≡ number_of v
       number clear = unfold answers.report_of number_of in answered_number x h
