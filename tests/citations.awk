@@ -10,7 +10,7 @@
 #   the list `name`                 a parameter of a public function
 #   clause `name`, .. and `name`    the name of a clause: of what follows as "of `path`" or "of `name`", else of the last path, else of
 #                                   some public function
-#   `..Word`                        the names before it in the cell, their last capital word changed to this one; in the same files
+#   `.._word`                       the names before it in the cell, their last word after a `_` changed to this one; in the same files
 #   `docs/PAGE.md`, "text"          a page that has this text
 #   [words](PAGE.md)                a page in docs/
 #   `u64`, `requires`, ..           words of the language: `language` below has them all
@@ -225,7 +225,7 @@ function read_ending(ending,    i, name, changed) {
     settle_clauses(owner_before())
     for (i = 1; i <= named; i++) {
         name = name_of[i]
-        if (!sub(/[A-Z][a-z]*$/, ending, name)) continue
+        if (!sub(/_[a-z]+$/, ending, name)) continue
         changed = 1
         names += 1
         if (!declares(file_named[i], name)) fail(file_named[i] " has no " name)

@@ -28,7 +28,7 @@ fn main() {
     let name = NAMES.iter().find(|name| archive(name).is_file());
     let name = name.unwrap_or_else(|| {
         eprintln!(
-            "{} is missing: run `rt staticlib capi` at the repository's root, or name its folder in {}",
+            "{} is missing: run `scripts/build --library` at the repository's root, or name its folder in {}",
             archive(NAMES[0]).display(),
             FOLDER
         );
