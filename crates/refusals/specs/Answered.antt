@@ -16,7 +16,6 @@ use Rattle.refusals.specs.Answers.{answer_of, left, report_of, value_of, value_r
 use Rattle.refusals.specs.Orders.{part-refused, part-clear}
 use Rattle.refusals.specs.declared.answer.Refusal.{Refusal}
 use Rattle.refusals.specs.declared.answer.Value.{Value}
-use Rattle.refusals.specs.declared.answer.Value.TheVariants as value
 use Rattle.refusals.specs.declared.answer.Checked.{Checked}
 use Rattle.refusals.specs.declared.answer.Checked.TheVariants as checked
 

@@ -1,6 +1,6 @@
 -- What a sheet of good shape has: its size, its places, and numbers below 2 ^ n.
 -- Assumes nothing.
-use Rattle.std.specs.Prelude.{◌≡◌, false, ◌||◌, List, [], length}
+use Rattle.std.specs.Prelude.{◌≡◌, false, ◌||◌, List, length}
 use Rattle.std.proofs.Common.{⊎_elim, zero-add, arith}
 use Prim.Native.Nat.{ℕ, zero, suc, ◌+◌, ◌-◌, ◌^◌, ◌≤◌, ◌<◌}
 use Rattle.gf2.specs.Numbers.{order, pow-next}

@@ -1,6 +1,6 @@
 -- Writing a sheet: column after column a record, record after record the sheet.
 -- Assumes nothing.
-use Rattle.std.specs.Prelude.{◌≡◌, refl, List, [], ◌++◌, ℕ, zero, suc, ◌+◌, ◌*◌, ◌≤◌, length, get_or}
+use Rattle.std.specs.Prelude.{◌≡◌, refl, List, ◌++◌, ℕ, zero, suc, ◌+◌, ◌*◌, ◌≤◌, length, get_or}
 use Rattle.std.proofs.Common.{◌∙◌, add-zero, add-one, arith, length-append}
 use Rattle.sheet.specs.Record.{record_size, degree_at, row_at, tail_at, conjugate_at, inverse_at, table_at, byte_size, tail_size, word_size, bytes_of, record_bytes, records_to}
 use Rattle.sheet.specs.Bytes.{pasted, pasted-none, pasted-next, bytes_of-length}

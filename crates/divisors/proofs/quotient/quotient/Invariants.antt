@@ -1,6 +1,6 @@
 -- `divisors::quotient::quotient` meets its contract. The invariant: a is q times d, of degree m, and what is left, which d divides.
 -- The measure is what is left. Assumes nothing.
-use Prim.Native.Nat.{◌-◌, ◌^◌, ◌<◌}
+use Prim.Native.Nat.{◌^◌, ◌<◌}
 use Rattle.gf2.specs.Poly.{Degree}
 use Rattle.divisors.specs.Quotient.{Left}
 use Rattle.divisors.proofs.quotient.quotient.Given as goal

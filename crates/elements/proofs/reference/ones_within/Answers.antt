@@ -1,4 +1,4 @@
-use Rattle.std.proofs.Common.{◌≡◌, ℕ, ◌+◌, ◌-◌, ◌^◌, ◌<◌, ap, ◌∙◌, arith, w64, Fits, rules}
+use Rattle.std.proofs.Common.{◌≡◌, ℕ, ◌+◌, ◌^◌, ◌<◌, ap, ◌∙◌, arith, w64, Fits, rules}
 use lib.Count.{ones-le}
 use Rattle.gf2.specs.Poly.{mul_mod}
 use Rattle.field.specs.Frobenius.{squared_start, squared-lt, squared_turn}

@@ -1,4 +1,4 @@
-use Rattle.std.proofs.Common.{◌≡◌, ℕ, ◌-◌, ◌≤◌, List, ap, ◌∙◌, arith}
+use Rattle.std.proofs.Common.{◌≡◌, ℕ, ◌≤◌, List, ap, ◌∙◌, arith}
 use lib.Pow.{pow-lt}
 use Rattle.gf2.specs.Limit.{limit}
 use Rattle.gf2.specs.Poly.{mul_mod}

@@ -1,4 +1,4 @@
-use Rattle.std.proofs.Common.{◌≡◌, ℕ, ◌+◌, ◌-◌, ◌≤◌, refl, ap, ◌∙◌, add-one, arith}
+use Rattle.std.proofs.Common.{◌≡◌, ℕ, ◌+◌, ◌≤◌, refl, ap, ◌∙◌, add-one, arith}
 use lib.Bits.{bit_xor}
 use Rattle.gf2.specs.Poly.{◌⊕◌}
 use Rattle.field.specs.Field.{squared, trace_to, trace}

@@ -1,4 +1,4 @@
-use Rattle.std.proofs.Common.{◌≡◌, ℕ, ◌-◌, ◌≤◌, List, ap, ◌∙◌, arith}
+use Rattle.std.proofs.Common.{◌≡◌, ℕ, ◌≤◌, List, ap, ◌∙◌, arith}
 use Rattle.gf2.specs.Limit.{limit}
 use Rattle.gf2.specs.Remainder.{rem_lt}
 use Rattle.normal.specs.Filling.{Filled, filled_start, filled_turn, filled_padded}

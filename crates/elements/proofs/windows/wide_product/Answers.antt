@@ -1,4 +1,4 @@
-use Rattle.std.proofs.Common.{◌-◌, arith, pow_pos}
+use Rattle.std.proofs.Common.{arith, pow_pos}
 use Rattle.elements.specs.Windows.{wide-first, wide_step, wide-last}
 use Rattle.elements.proofs.windows.wide_product.Goals as goal
 

@@ -31,7 +31,7 @@ loop-rest-preserved c =
     let a = c.loop-rest.conjugate in
     let t : (c.if-rest-eq1.power < 2 ^ n) × (mul_mod f n c.if-rest-eq1.power (pow_mod f n (mul_mod f n a a) (c.loop-rest.rest / 2)) ≡ mul_mod f n y (pow_mod f n a c.loop-rest.rest)) =
     elim c.if-rest-eq1.branch [
-      then-rest-eq1 w ↦ (
+      | then-rest-eq1 w ↦ (
         rw (w.power-is, w.multiply-power.ensures) (mul_mod-lt f n r.is_degree y a),
         rw (w.power-is, w.multiply-power.ensures) (pow_mod-picked f n r.is_degree r.two y a c.loop-rest.rest w.if-rest-eq1.true),
       )

@@ -1,4 +1,4 @@
-use Rattle.std.proofs.Common.{◌≡◌, ℕ, ◌+◌, ◌-◌, ◌*◌, ◌^◌, ap, ◌∙◌, arith}
+use Rattle.std.proofs.Common.{◌≡◌, ℕ, ◌+◌, ◌*◌, ◌^◌, ap, ◌∙◌, arith}
 use Rattle.gf2.specs.Poly.{rem}
 use Rattle.gf2.specs.Steps.{rem_turn}
 use Rattle.gf2.specs.Raised.{raised-degree, rem_fits}

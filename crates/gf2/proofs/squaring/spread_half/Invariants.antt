@@ -1,6 +1,6 @@
 -- `gf2::squaring::spread_half` meets its contract. The invariant: sum is the spread of the coefficients of a from k upward. The measure
 -- is k. Assumes nothing.
-use Rattle.std.proofs.Common.{◌≡◌, ◌-◌, ◌/◌, ◌%◌, ◌^◌, ◌≤◌}
+use Rattle.std.proofs.Common.{◌≡◌, ◌/◌, ◌%◌, ◌^◌, ◌≤◌}
 use Rattle.gf2.specs.Poly.{spread}
 use Rattle.gf2.proofs.squaring.spread_half.Given as goal
 

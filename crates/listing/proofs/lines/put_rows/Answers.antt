@@ -1,5 +1,4 @@
 use mathlib.Core.Path.{◌≡◌}
-use Prim.Native.Nat.{◌-◌}
 use native.Mathlib.Omega.{arith}
 use Rattle.listing.specs.Putting.{put-length}
 use Rattle.listing.specs.Lines.{rows_none, rows_turn}

@@ -1,6 +1,5 @@
 -- `normal::by_bytes::product_by_bytes` meets its contract. The invariant: the bits of a from i upward are taken. The measure is i.
 -- Assumes nothing.
-use Prim.Native.Nat.{◌-◌}
 use Rattle.normal.specs.Turns.{Taken}
 use Rattle.normal.specs.Summed.{summed_rows}
 use Rattle.normal.proofs.by_bytes.product_by_bytes.Given as goal

@@ -1,6 +1,5 @@
 -- `normal::product::product_of` meets its contract. The invariant: the bits of a from i upward are taken. The measure is i.
 -- Assumes nothing.
-use Prim.Native.Nat.{◌-◌}
 use lib.ListN.{take}
 use Rattle.normal.specs.Turns.{Taken}
 use Rattle.normal.proofs.product.product_of.Given as goal

@@ -1,4 +1,3 @@
-use Prim.Native.Nat.{◌-◌}
 use native.Mathlib.Omega.{arith}
 use Rattle.gf2.specs.Poly.{◌⊕◌}
 use Rattle.gf2.specs.Sum.{zero-⊕}

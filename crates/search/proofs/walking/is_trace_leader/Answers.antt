@@ -1,7 +1,6 @@
 -- `search::walking::is_trace_leader` meets its contract: the two tests are the definition's.
 -- Assumes nothing.
 use mathlib.Core.Path.{sym, ◌∙◌}
-use borrow.Author.Tests.{not-true, not-false}
 use Rattle.search.specs.Begun.{trace-leader_with, trace-leader_without}
 use Rattle.search.proofs.walking.is_trace_leader.Goals as goal
 

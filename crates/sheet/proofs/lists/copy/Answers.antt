@@ -1,6 +1,5 @@
 use mathlib.Core.Path.{refl, ◌∙◌}
 use mathlib.Core.List.{map-id}
-use Prim.Native.Nat.{◌-◌}
 use native.Mathlib.Omega.{arith}
 use Rattle.sheet.specs.Lists.{fill_turn, fill_done, fill-length}
 use Rattle.sheet.proofs.lists.copy.Invariants.{same}

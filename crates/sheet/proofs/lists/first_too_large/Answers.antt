@@ -1,5 +1,4 @@
 use mathlib.Core.Path.{refl, sym, ◌∙◌}
-use Prim.Native.Nat.{◌-◌}
 use native.Mathlib.Omega.{arith}
 use Rattle.sheet.specs.Lists.{large_found, large_passed, large_none}
 use Rattle.sheet.proofs.lists.first_too_large.Goals as goal

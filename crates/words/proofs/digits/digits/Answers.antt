@@ -1,5 +1,5 @@
 use mathlib.Core.Path.{sym, ◌∙◌}
-use Prim.Native.Nat.{◌-◌, ◌^◌}
+use Prim.Native.Nat.{◌^◌}
 use native.Mathlib.Omega.{arith}
 use Rattle.words.specs.Digits.{digits_more, digits_stop, digits-read, word_empty, word_some}
 use Rattle.words.proofs.digits.digits.Goals as goal

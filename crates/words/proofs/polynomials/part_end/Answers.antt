@@ -1,5 +1,4 @@
 use mathlib.Core.Path.{refl}
-use Prim.Native.Nat.{◌-◌}
 use native.Mathlib.Omega.{arith}
 use Rattle.words.specs.Parts.{colon-found, colon_passed, colon-none}
 use Rattle.words.proofs.polynomials.part_end.Goals as goal
