@@ -22,12 +22,14 @@ use Rattle.refusals.specs.Told.{In, AtZero, Below}
 use Rattle.refusals.specs.Telling.{Lacks, absent_lacks, rule-applies, part_passed, every_also, listed-at-zero}
 use Rattle.field.specs.Accepted.{divided, strays, InRange, Operand}
 use Rattle.field.specs.Refusals.{degree_rule, element_rule, divisor_rule, return_rule, operand_order, field_order, check_order}
-use Rattle.field.specs.Orders.{in_range, operand_judged}
+use Rattle.field.specs.Orders.{in_range}
+use Rattle.field.proofs.Orders.{operand_judged}
 use Rattle.normal.specs.Normal.{normal}
 use Rattle.sheet.specs.Record.{record_count, conjugate_in, polynomial_in}
 use Rattle.sheet.specs.Orders.{Shaped, room_rule, normal_rule, differ_rules, room_order, build_order, shape_order, basis_order, rebuilt_from, rebuild_order, read_order}
-use Rattle.sheet.specs.Clear.{clear-shaped}
-use Rattle.sheet.specs.Listed.{OnShape, shape-listed, differ-listed}
+use Rattle.sheet.proofs.Clear.{clear-shaped}
+use Rattle.sheet.specs.Listed.{OnShape, differ-listed}
+use Rattle.sheet.proofs.Listed.{shape-listed}
 
 -- ---- check
 

@@ -21,8 +21,8 @@ use Rattle.normal.specs.Filling.{padded-at}
 use Rattle.normal.specs.declared.basis.Built.{Built}
 use Rattle.sheet.specs.Record.{record_count, conjugate_in, polynomial_in, sheet_bytes}
 use Rattle.sheet.specs.Sheets.{Based}
-use Rattle.sheet.specs.Issuing.{based-degree, based-two, based-most, based-free}
-use Rattle.sheet.specs.Written.{conjugate_is, inverse_is, table_is}
+use Rattle.sheet.proofs.Issuing.{based-degree, based-two, based-most, based-free}
+use Rattle.sheet.proofs.Written.{conjugate_is, inverse_is, table_is}
 use Rattle.sheet.specs.declared.loading.Row.{Row}
 use Rattle.causes.specs.Causes.{row_of, first_field_lem, difference_by, difference_of, difference_in, polynomial_cause, basis_cause, sheet_cause, cause_of}
 use Rattle.causes.specs.declared.answer.Field.TheVariants as field

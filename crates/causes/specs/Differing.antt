@@ -29,8 +29,9 @@ use Rattle.sheet.specs.Orders.{Shaped, same, misplaced, differ_rules, rebuilt_fr
 use Rattle.normal.specs.Normal.{conjugates, inverse_rows, table_rows}
 use Rattle.sheet.specs.Columns.{record_at_written}
 use Rattle.sheet.specs.Sheets.{Based}
-use Rattle.sheet.specs.Issuing.{based-degree, based-two, based-most, based-free}
-use Rattle.sheet.specs.Written.{degree_is, row_is, tail_is, conjugate_is, inverse_is, table_is, same_equal}
+use Rattle.sheet.proofs.Issuing.{based-degree, based-two, based-most, based-free}
+use Rattle.sheet.specs.Written.{same_equal}
+use Rattle.sheet.proofs.Written.{degree_is, row_is, tail_is, conjugate_is, inverse_is, table_is}
 
 -- ---- the first record
 

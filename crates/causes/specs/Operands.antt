@@ -17,7 +17,7 @@ use Rattle.refusals.specs.declared.answer.Checked.TheVariants as checked
 use Rattle.field.specs.Accepted.{InRange, Operand}
 use Rattle.field.specs.Answers.{check_answer}
 use Rattle.field.specs.Field.{squared}
-use Rattle.field.specs.Orders.{operand_judged}
+use Rattle.field.proofs.Orders.{operand_judged}
 use Rattle.field.specs.Refusals.{operand_order, check_order}
 use Rattle.rows.specs.Rows.{Dependency}
 use Rattle.normal.specs.Normal.{conjugates}

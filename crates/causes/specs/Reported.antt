@@ -13,7 +13,8 @@ use Rattle.refusals.specs.Telling.{first_found, every_first, listed-at-zero}
 use Rattle.field.specs.Refusals.{check_order}
 use Rattle.sheet.specs.Record.{record_size, record_count}
 use Rattle.sheet.specs.Orders.{build_order, read_order}
-use Rattle.sheet.specs.Listed.{OnReading, read-listed}
+use Rattle.sheet.specs.Listed.{OnReading}
+use Rattle.sheet.proofs.Listed.{read-listed}
 use Rattle.causes.specs.Causes.{Reason, difference_in, polynomial_cause, basis_cause, sheet_cause, cause_of, cause_report, reason_of, why_answer, why_report, why_check_answer, why_check_report, why_build_answer, why_build_report}
 use Rattle.causes.specs.declared.answer.Cause.{Cause}
 

@@ -24,17 +24,19 @@ use Rattle.field.specs.Divided.{Divisor}
 use Rattle.field.specs.Field.{squared}
 use Rattle.divisors.specs.Smallest.{smallest_divisor, smallest-proper, smallest_of_degree}
 use Rattle.rows.specs.Rows.{Inverse, Dependency}
-use Rattle.rows.specs.Inverses.{inverse-independent}
-use Rattle.rows.specs.Decision.{inverse-or-dependency}
+use Rattle.rows.proofs.Inverses.{inverse-independent}
+use Rattle.rows.proofs.Decision.{inverse-or-dependency}
 use Rattle.normal.specs.Normal.{conjugates, normal, dependency}
-use Rattle.normal.specs.Coordinates.{normal-means, dependency_is, conjugates_matrix}
+use Rattle.normal.specs.Coordinates.{dependency_is}
+use Rattle.normal.proofs.Coordinates.{normal-means, conjugates_matrix}
 use Rattle.sheet.specs.Record.{record_count, record_at, degree_in, row_in, tail_in, conjugate_in, polynomial_in}
 use Rattle.sheet.specs.Orders.{Shaped, same, differ_rules, rebuilt_from, read_order}
 use Rattle.sheet.specs.Answers.{summary_in, read_answer}
 use Rattle.sheet.specs.Answered.{refused_verdict}
 use Rattle.sheet.specs.Clear.{columns-lt, polynomial-degree}
-use Rattle.sheet.specs.Issuing.{shaped-based}
-use Rattle.sheet.specs.Listed.{OnReading, read-listed}
+use Rattle.sheet.proofs.Issuing.{shaped-based}
+use Rattle.sheet.specs.Listed.{OnReading}
+use Rattle.sheet.proofs.Listed.{read-listed}
 use Rattle.sheet.specs.Sheets.{Based}
 use Rattle.sheet.specs.Written.{same_refl}
 use Rattle.sheet.specs.declared.answer.Issued.TheVariants as issued

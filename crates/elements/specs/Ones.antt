@@ -15,8 +15,9 @@ use Rattle.field.specs.Field.{squared}
 use Rattle.field.specs.Ring.{mul_mod-lt}
 use Rattle.rows.specs.Rows.{Independent}
 use Rattle.normal.specs.Normal.{conjugates, table_rows, complexity}
-use Rattle.normal.specs.Coordinates.{normal-means}
-use Rattle.normal.specs.Halves.{halves_to, halves_to_turn, complexity-halved, complexity-least}
+use Rattle.normal.proofs.Coordinates.{normal-means}
+use Rattle.normal.specs.Halves.{halves_to, halves_to_turn}
+use Rattle.normal.proofs.Halves.{complexity-halved, complexity-least}
 use Rattle.elements.specs.Reference.{Reference, through}
 use Rattle.elements.specs.Through.{through-normal, through-row}
 

@@ -10,9 +10,9 @@ use Rattle.rows.specs.Rows.{comb, Independent}
 use Rattle.rows.specs.Sums.{comb-lt}
 use Rattle.rows.specs.ByteSums.{bytes, picked_bytes, bytes_pick}
 use Rattle.normal.specs.Normal.{conjugates, normal, inverse_rows, table_rows, padded}
-use Rattle.normal.specs.Coordinates.{normal-means, inverse_rows-inverse, there_and_back}
+use Rattle.normal.proofs.Coordinates.{normal-means, inverse_rows-inverse, there_and_back}
 use Rattle.normal.specs.Filling.{padded-comb}
-use Rattle.normal.specs.Reference.{zero_not_normal, unit-normal, unit_row}
+use Rattle.normal.proofs.Reference.{zero_not_normal, unit-normal, unit_row}
 use Rattle.elements.specs.Reference.{Reference, through}
 use Rattle.elements.specs.Units.{Witnesses}
 use Rattle.elements.specs.declared.units.Witness.{Witness}

@@ -27,8 +27,8 @@ use Rattle.rows.specs.Linear.{Linear, linear_after, linear_bit, linear_ext}
 use Rattle.rows.specs.Bits.{bit_of, ◌∩◌}
 use Rattle.rows.specs.Sharing.{bit_of-⊕, bit_of-lt, bit_of-zero, bit_of-power, bit_of-other, ∩_comm, ∩_linear, ∩-power}
 use Rattle.normal.specs.Normal.{normal}
-use Rattle.normal.specs.Coordinates.{normal-means}
-use Rattle.normal.specs.Conjugated.{normal-trace}
+use Rattle.normal.proofs.Coordinates.{normal-means}
+use Rattle.normal.proofs.Conjugated.{normal-trace}
 use Rattle.elements.specs.Fields.{FieldOf}
 use Rattle.elements.specs.declared.modulus.Modulus.{Modulus}
 

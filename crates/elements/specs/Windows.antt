@@ -23,7 +23,7 @@ use Rattle.gf2.specs.Product.{product-one_r, product-power, product_shift_r, pro
 use Rattle.gf2.specs.Remainder.{rem-zero, rem-⊕, rem_unique, rem_shift, mul_mod-zero_r}
 use Rattle.field.specs.Ring.{mul_mod-lt, mul_mod-⊕_r, one-lt}
 use Rattle.rows.specs.Linear.{linear_shift}
-use Rattle.normal.specs.Reference.{turn_degree}
+use Rattle.normal.proofs.Reference.{turn_degree}
 use Rattle.elements.specs.Multiples.{multiples_of, multiples-at}
 
 -- A turn moves its windows by 0, 4, 8 and 12 places, each within a word of 64 bits: an element has to leave 12 of them free.

@@ -2,7 +2,7 @@
 -- check's answer means: `Checked`.
 -- Assumes nothing.
 use Rattle.std.specs.Prelude.{◌≡◌, refl, Bool, true, false, List, [], ◌∷◌, ℕ, ◌^◌, ◌≤◌, ◌<◌, ltb}
-use Rattle.std.proofs.Common.{sym, ap, ◌∙◌, ⊎_elim, arith, ltb-false, leb-false, le-leb}
+use Rattle.std.proofs.Common.{ap, ◌∙◌, ⊎_elim, arith, ltb-false, leb-false, le-leb}
 use Rattle.std.proofs.lemmas.Bool.{lt-leb}
 use Rattle.gf2.specs.Poly.{degree}
 use Rattle.gf2.specs.Numbers.{order}
@@ -11,7 +11,7 @@ use Rattle.gf2.specs.Degrees.{degree_is, degree-zero}
 use Rattle.gf2.specs.Limit.{limit}
 use Rattle.refusals.specs.Verdicts.{Rule, clear, refuse, first_of}
 use Rattle.refusals.specs.Orders.{first-applies, first_passes, first-none, first-clear}
-use Rattle.field.specs.Accepted.{degree_outside, divided, strays, InRange, Operand}
+use Rattle.field.specs.Accepted.{degree_outside, divided, strays, InRange}
 use Rattle.field.specs.Refusals.{too_large_lem, any_too_large, degree_rule, element_rule, divisor_rule, return_rule, element_order, operand_order, field_order}
 
 -- ---- condition 1
@@ -89,25 +89,9 @@ one-small n a e = (both_small n a a (element_twice n a ∙ e)).0
 
 -- ---- both
 
--- condition 4, judged with the degree that a call has computed
-pub operand-inside : (f n : ℕ) (values : List ℕ) → n ≡ degree f → degree_outside f ≡ false → first_of (operand_order f values) ≡ first_of (element_order n values)
-operand-inside f n values en e = first_passes (degree_rule f) _ e ∙ ap (λ (k : ℕ). first_of (element_order k values)) (sym en)
-
 pub operand_twice : (f a : ℕ) → first_of (operand_order f (a ∷ a ∷ [])) ≡ first_of (operand_order f (a ∷ []))
 unfolding first_of
 operand_twice f a = rw (any_twice (degree f) a)
-
--- what conditions 1 and 4 leave
-module _ (f n a : ℕ) (en : n ≡ degree f) where
-  pub operands_judged : (b : ℕ) → first_of (operand_order f (a ∷ b ∷ [])) ≡ clear → Operand f n a × Operand f n b
-  operands_judged b e =
-      let s = first-clear (degree_rule f) (element_order (degree f) (a ∷ b ∷ [])) e in
-      let r : InRange f n = in_range f n en s.0 in
-      let p = both_small (degree f) a b s.1 in
-      (record { in_range = r; small = rw en p.0 }, record { in_range = r; small = rw en p.1 })
-
-  pub operand_judged : first_of (operand_order f (a ∷ [])) ≡ clear → Operand f n a
-  operand_judged e = (operands_judged a (operand_twice f a ∙ e)).0
 
 -- ---- conditions 2 and 3
 

@@ -8,66 +8,23 @@
 --
 -- When the calls are done: `Judging`. What writing leaves: `Exact`.
 -- Assumes nothing.
-use Rattle.std.specs.Prelude.{◌≡◌, false, not, ℕ, ◌+◌, ◌≤◌, ◌<◌}
+use Rattle.std.specs.Prelude.{◌≡◌, ℕ}
 use Rattle.std.proofs.Math.Path.{sym, ap}
-use Rattle.std.proofs.Common.{◌∙◌, zero-add, le-ltb}
-use mathlib.Core.List.{List, [], ◌∷◌, ◌++◌}
-use Rattle.std.proofs.Math.ListN.{length, drop}
-use Rattle.gf2.specs.Limit.{limit}
-use Rattle.gf2.specs.Degrees.{degree-eq}
+use Rattle.std.proofs.Common.{◌∙◌}
+use mathlib.Core.List.{List, ◌++◌}
 use Rattle.gf2.specs.Poly.{degree}
-use Rattle.refusals.specs.Verdicts.{Verdict, clear, refuse, first_of}
-use Rattle.refusals.specs.Orders.{first-none, part-clear}
-use Rattle.refusals.specs.Answers.{refusal_at, checked_of}
+use Rattle.refusals.specs.Verdicts.{Verdict, refuse, first_of}
 use Rattle.refusals.specs.Answered.{answer-refused}
 use Rattle.refusals.specs.declared.answer.Refusal.{Refusal}
-use Rattle.refusals.specs.declared.answer.Checked.{Checked}
-use Rattle.field.specs.Accepted.{Operand, degree_outside}
 use Rattle.field.specs.Refusals.{field_order}
-use Rattle.normal.specs.Basis.{built_of}
-use Rattle.normal.specs.Normal.{table_rows, padded}
-use Rattle.normal.specs.declared.basis.Basis.{Basis}
-use Rattle.normal.specs.declared.basis.Built.{Built}
-use Rattle.sheet.specs.Record.{record_count, conjugate_in, polynomial_in, table_rows_in}
-use Rattle.sheet.specs.Orders.{normal_rule}
-use Rattle.sheet.specs.Bytes.{pasted}
-use Rattle.sheet.specs.Basis.{normal_passed, normal-rows}
-use Rattle.sheet.specs.Answers.{issued_of, issued_report, summary_of, summary_in, read_answer}
+use Rattle.sheet.specs.Answers.{issued_of, issued_report, summary_of}
 use Rattle.sheet.specs.Answered.{issued_promised}
-use Rattle.sheet.specs.Issued.{answered_sheet}
-use Rattle.sheet.specs.Issuing.{clear-based}
-use Rattle.sheet.specs.Held.{table-rows}
-use Rattle.sheet.specs.Sheets.{Based}
-use Rattle.sheet.specs.declared.answer.Summary.{Summary}
 use Rattle.sheet.specs.declared.answer.Issued.{Issued}
 use Rattle.sheet.specs.declared.answer.Issued.TheVariants as issued
-use Rattle.matrices.specs.Matrices.{text_bytes, matrices_text, text_size}
-use Rattle.matrices.specs.Orders.{match_rule, write_text_order, match_order, read_text_order}
-use Rattle.matrices.specs.Answers.{text_in, write_text_answer, write_text_report, written_text, read_text_answer, read_text_report}
-use Rattle.matrices.specs.Turned.{Twice, turned, turned_text}
-use Rattle.matrices.specs.Judging.{write_done_exactly, write_room_exactly}
-use Rattle.matrices.specs.Exact.{matrices-size, written_front, written_kept}
+use Rattle.matrices.specs.Orders.{match_order, read_text_order}
+use Rattle.matrices.specs.Answers.{read_text_answer, read_text_report}
 
 -- ---- reading
-
--- f is accepted and the element normal
-built_based : (f n a : ℕ) → Operand f n a → first_of (field_order f) ≡ clear → first_of (normal_rule f n a ∷ []) ≡ clear → Based f n a
-unfolding degree_outside
-built_based f n a o accepts normal =
-    let d = o.in_range in
-    let size : degree f ≡ n = degree-eq f n d.is_degree in
-    let inside : degree_outside f ≡ false = rw (size, le-ltb n 2 d.two, le-ltb limit n d.most) in
-    clear-based f n a inside size o.small (part-clear (field_order f) (normal_rule f n a ∷ []) accepts ∙ normal)
-
--- the verdict on a text, compared with the matrices of the basis that was built
-pub built_verdict : (f n a : ℕ) → Operand f n a → first_of (field_order f) ≡ clear → {r : Built} → r ≡ built_of f n a → not r.normal ≡ false
-    → (rows text : List ℕ) → Twice n r.basis.table rows → {c : Checked} → c ≡ checked_of (first_of (match_rule text (text_bytes n (turned n rows)) ∷ []))
-    → c ≡ checked_of (first_of (match_order f n a text))
-built_verdict f n a o accepts {r} er flag rows text twice {c} ec =
-    let b : Based f n a = built_based f n a o accepts (normal_passed f n a er flag [] ∙ first-none) in
-    let held : r.basis.table ≡ padded (table_rows f n a) = ap (λ (x : Basis). x.table) (normal-rows f n a er flag) in
-    ec ∙ ap (λ (right : List ℕ). checked_of (first_of (match_rule text right ∷ []))) (turned_text f n a b r.basis.table rows held twice)
-    ∙ ap checked_of (sym (normal_passed f n a er flag (match_rule text (matrices_text f n a) ∷ [])))
 
 module _ (f a : ℕ) (text : List ℕ) where
   pub text_refused : {r : Refusal} → first_of (read_text_order f a text) ≡ refuse r.number r.place
@@ -83,36 +40,3 @@ module _ (f a : ℕ) (text : List ℕ) where
       issued_promised (first_of (read_text_order f a text)) (summary_of f (degree f) a)
       (er ∙ ap (λ (k : ℕ). issued_of (first_of (field_order f ++ match_order f k a text)) (summary_of f k a)) en
       ∙ ap (λ (w : Verdict). issued_of w (summary_of f (degree f) a)) (sym e))
-
--- ---- writing
-
-module _ (sheet text : List ℕ) where
-  -- the clauses of the promise, from the answer and the text
-  promised : {r : Issued} {last : List ℕ} → r ≡ write_text_answer sheet (length text) → last ≡ written_text sheet text
-      → (r ≡ write_text_answer sheet (length text)) × ((issued_report r ≡ write_text_report sheet (length text)) × (last ≡ written_text sheet text))
-  unfolding write_text_answer write_text_report
-  promised er el = let p = issued_promised (first_of (write_text_order sheet (length text))) (summary_in sheet) er in (p.0, (p.1, el))
-
-  pub write_refused : {r : Refusal} → write_text_answer sheet (length text) ≡ issued.Refused r
-      → (issued.Refused r ≡ write_text_answer sheet (length text)) × ((issued_report (issued.Refused r) ≡ write_text_report sheet (length text)) × (text ≡ written_text sheet text))
-  write_refused {r} e = promised (sym e) (sym (written_kept sheet text r e))
-
-  module _ (s : Summary) (e : read_answer sheet ≡ issued.Done s) where
-    pub write_short : length text < text_size (record_count sheet) → write_text_answer sheet (length text) ≡ issued.Refused (refusal_at 6 0)
-    write_short h = (write_room_exactly sheet (length text)).1 (e ∙ ap issued.Done (sym (answered_sheet sheet s e).1), h)
-
-    -- the text that was put is made of the table's rows twice over
-    pub write_done : text_size (record_count sheet) ≤ length text → (table rows last : List ℕ) → table ≡ padded (table_rows_in sheet) → Twice (record_count sheet) table rows
-        → last ≡ pasted text 0 (text_bytes (record_count sheet) (turned (record_count sheet) rows))
-        → (issued.Done s ≡ write_text_answer sheet (length text)) × ((issued_report (issued.Done s) ≡ write_text_report sheet (length text)) × (last ≡ written_text sheet text))
-    unfolding pasted
-    write_done h table rows last et twice el =
-        let f = polynomial_in sheet in
-        let n = record_count sheet in
-        let a = conjugate_in sheet 0 in
-        let own = (answered_sheet sheet s e).0 in
-        let answer = (write_done_exactly sheet (length text) s).1 (e, h) in
-        let right : text_bytes n (turned n rows) ≡ text_in sheet = turned_text f n a own.based table rows (et ∙ ap padded (table-rows f n a sheet own)) twice in
-        let put : last ≡ text_in sheet ++ drop (text_size n) text =
-        el ∙ ap (λ (l : List ℕ). l ++ drop (0 + length l) text) right ∙ ap (λ (k : ℕ). text_in sheet ++ drop k text) (zero-add _ ∙ matrices-size f n a) in
-        promised (sym answer) (put ∙ sym (written_front sheet text s answer))

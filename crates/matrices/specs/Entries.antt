@@ -9,27 +9,25 @@
 use Rattle.std.specs.Prelude.{◌≡◌}
 use Rattle.std.proofs.Math.Path.{sym, ap}
 use Rattle.std.proofs.Common.{◌∙◌, ⊎_elim, mod-lt, mod-eq_of_lt, arith}
-use mathlib.Core.List.{List}
 use Prim.Native.Nat.{ℕ, zero, suc, ◌+◌, ◌-◌, ◌%◌, ◌^◌, ◌≤◌, ◌<◌}
 use Rattle.std.proofs.Math.Nat.{mod-add-mod, add-mod_right}
 use Rattle.gf2.specs.Numbers.{order}
 use Rattle.gf2.specs.Poly.{mul_mod, Degree}
 use Rattle.field.specs.Field.{squared}
-use Rattle.field.specs.Frobenius.{squared-lt, squared-mul_mod, squared-add, squared_fixes}
+use Rattle.field.specs.Frobenius.{squared-mul_mod, squared-add, squared_fixes}
 use Rattle.field.specs.Ring.{mul_mod-lt}
 use Rattle.rows.specs.Bits.{bit_of}
 use Rattle.rows.specs.Rows.{Independent}
 use Rattle.normal.specs.Normal.{conjugates, coordinates, table_rows}
 use Rattle.normal.specs.TableProduct.{rotated_by, entry}
-use Rattle.normal.specs.Rotation.{rotate-bit}
-use Rattle.normal.specs.Turns.{rotated_by-lt}
-use Rattle.normal.specs.Halves.{squared-coordinates}
-use Rattle.normal.specs.Coordinates.{coordinates_are, normal-means, table_rows-at}
-use Rattle.normal.specs.Conjugated.{conjugate-normal, table_of_conjugate}
-use Rattle.sheet.specs.Issuing.{based-degree, based-two, based-returns, based-free}
+use Rattle.normal.proofs.Rotation.{rotate-bit}
+use Rattle.normal.proofs.Turns.{rotated_by-lt}
+use Rattle.normal.proofs.Halves.{squared-coordinates}
+use Rattle.normal.specs.Coordinates.{table_rows-at}
+use Rattle.normal.proofs.Coordinates.{coordinates_are}
+use Rattle.sheet.proofs.Issuing.{based-degree, based-two, based-returns, based-free}
 use Rattle.sheet.specs.Sheets.{Based}
-use Rattle.matrices.specs.Matrices.{matrix_entry, matrices_text}
-use Rattle.matrices.specs.Blocks.{text_ext}
+use Rattle.matrices.specs.Matrices.{matrix_entry}
 
 -- ---- i places back in a cycle of n
 
@@ -107,29 +105,3 @@ module _ (f n a : ℕ) (b : Based f n a) where
       ap (λ (v : ℕ). bit_of v k) (product-row i j hi hj)
       ∙ turned_bit n i (coordinates f n a (mul_mod f n a (squared f n m a))) k pos (row_lt m) (omega arith) hk
       ∙ ap (λ (v : ℕ). bit_of v ((k + (n - i)) % n)) (sym (table_rows-at f n a m (mod-lt (j + (n - i)) pos)))
-
--- ---- conjugates
-
-module _ (f n a : ℕ) (b : Based f n a) (m : ℕ) (within : m ≤ n) where
-  abbrev conjugate : ℕ
-  conjugate = squared f n m a
-
-  conjugate-based : Based f n (squared f n m a)
-  conjugate-based =
-      let normal = conjugate-normal f n (based-degree f n a b) (based-two f n a b) (based-returns f n a b) a b.below m within (based-free f n a b) in
-      record {
-        accepted = b.accepted;
-        has_degree = b.has_degree;
-        below = squared-lt f n (based-degree f n a b) m a b.below;
-        is_normal = (normal-means f n conjugate).1 normal;
-      }
-
-  -- they have the same table
-  pub text_of_conjugate : matrices_text f n (squared f n m a) ≡ matrices_text f n a
-  unfolding matrices_text
-  text_of_conjugate =
-      let tables = table_of_conjugate f n (based-degree f n a b) (based-two f n a b) (based-returns f n a b) a b.below m within (based-free f n a b) in
-      text_ext n (matrix_entry f n conjugate) (matrix_entry f n a)
-      (λ k i j hk hi hj.
-      entry-table f n conjugate conjugate-based k i j hk hi hj
-      ∙ ap (λ (rows : List ℕ). entry rows ((j + (n - i)) % n) ((k + (n - i)) % n)) tables ∙ sym (entry-table f n a b k i j hk hi hj))

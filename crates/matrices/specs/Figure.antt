@@ -18,11 +18,13 @@ use Rattle.field.specs.Field.{squared}
 use Rattle.field.specs.Ring.{mul_mod-lt}
 use Rattle.rows.specs.Bits.{bit_of}
 use Rattle.normal.specs.Normal.{coordinates, table_rows, complexity}
-use Rattle.normal.specs.Coordinates.{coordinates_are, table_rows-at, table_rows-length}
-use Rattle.normal.specs.Halves.{total-last, complexity-total, ones-rotated_by}
+use Rattle.normal.specs.Coordinates.{table_rows-at, table_rows-length}
+use Rattle.normal.proofs.Coordinates.{coordinates_are}
+use Rattle.normal.specs.Halves.{total-last, complexity-total}
+use Rattle.normal.proofs.Halves.{ones-rotated_by}
 use Rattle.normal.specs.ProductBits.{total_ext, total-none, bit_of_half, bit_of-first}
 use Rattle.normal.specs.TableProduct.{total}
-use Rattle.sheet.specs.Issuing.{based-degree, based-two, based-free}
+use Rattle.sheet.proofs.Issuing.{based-degree, based-two, based-free}
 use Rattle.sheet.specs.Sheets.{Based}
 use Rattle.matrices.specs.Matrices.{matrix_entry}
 use Rattle.matrices.specs.Entries.{product-row, row_lt}

@@ -13,33 +13,32 @@
 --
 -- What a sheet is that reading accepts: `read-sheet` in `Issuing` of `sheet`. What writing leaves: `Exact`. 14 and its place: `Places`.
 -- Assumes nothing.
-use Rattle.std.specs.Prelude.{◌≡◌, ◌↔◌, false, ℕ, zero, suc, ◌+◌, ◌*◌, ◌≤◌, ◌<◌}
+use Rattle.std.specs.Prelude.{◌≡◌, ◌↔◌, ℕ, ◌*◌, ◌≤◌}
 use Rattle.std.proofs.Math.Path.{refl, ap}
-use Rattle.std.proofs.Common.{sym, ◌∙◌, ⊎_elim, le_refl, arith}
+use Rattle.std.proofs.Common.{sym, ◌∙◌, le_refl, arith}
 use mathlib.Core.List.{List, [], ◌∷◌, ◌++◌}
-use borrow.Author.Tests.{lt-ltb, le-ltb, ltb-false, not-false}
-use Rattle.gf2.specs.Numbers.{order}
+use borrow.Author.Tests.{le-ltb, not-false}
 use Rattle.gf2.specs.Poly.{degree}
 use Rattle.refusals.specs.Verdicts.{Rule, Verdict, clear, refuse, first_of}
-use Rattle.refusals.specs.Answers.{refusal_at, answer_of}
-use Rattle.refusals.specs.Orders.{first-applies, first_passes, first-none, first-clear, part-refused, part-clear, parts-clear}
+use Rattle.refusals.specs.Answers.{answer_of}
+use Rattle.refusals.specs.Orders.{first_passes, first-none, first-clear, part-refused, part-clear, parts-clear}
 use Rattle.refusals.specs.Told.{AtZero, Every}
-use Rattle.refusals.specs.Telling.{first_found, every_first, every_append, listed-at-zero}
+use Rattle.refusals.specs.Telling.{listed-at-zero}
 use Rattle.refusals.specs.declared.answer.Refusal.{Refusal}
 use Rattle.field.specs.Refusals.{operand_order}
-use Rattle.sheet.specs.Record.{record_size, record_count}
-use Rattle.sheet.specs.Orders.{same, record_rules, differ_rules, shape_order, basis_order, rebuilt_from, rebuild_order, build_order, read_order}
-use Rattle.sheet.specs.Answers.{issued_of, summary_of, summary_in, build_answer, read_answer}
+use Rattle.sheet.specs.Record.{record_size}
+use Rattle.sheet.specs.Orders.{same, basis_order, build_order}
+use Rattle.sheet.specs.Answers.{issued_of, summary_of, build_answer}
 use Rattle.sheet.specs.Answered.{done-clear}
-use Rattle.sheet.specs.Issued.{build_answered}
-use Rattle.sheet.specs.Issuing.{build_issues, build-based}
+use Rattle.sheet.proofs.IssuedLaws.{build_answered}
+use Rattle.sheet.proofs.Issuing.{build_issues, build-based}
 use Rattle.sheet.specs.Sheets.{Based}
 use Rattle.sheet.specs.Written.{same_refl, same_equal}
 use Rattle.sheet.specs.declared.answer.Summary.{Summary}
 use Rattle.sheet.specs.declared.answer.Issued.TheVariants as issued
-use Rattle.matrices.specs.Matrices.{matrices_text, text_size}
-use Rattle.matrices.specs.Orders.{text_room_rule, match_rule, write_text_order, read_text_order}
-use Rattle.matrices.specs.Answers.{write_text_answer, read_text_answer}
+use Rattle.matrices.specs.Matrices.{matrices_text}
+use Rattle.matrices.specs.Orders.{match_rule, read_text_order}
+use Rattle.matrices.specs.Answers.{read_text_answer}
 
 -- ---- reading, by its verdict
 
@@ -111,91 +110,3 @@ module _ (f a room : ℕ) (fits : record_size * degree f ≤ room) (text : List 
       go : (v : Verdict) → first_of (based_order_lem f a) ≡ v → read_text_answer f a text ≡ issued.Refused r
       go clear c = absurd (not_refused (summary_of f (degree f) a) r (rw (build-roomy f a room fits, c) at e))
       go (refuse k p) c = rw (part-refused (based_order_lem f a) (match_rule text (matrices_text f (degree f) a) ∷ []) k p c) (rw (build-roomy f a room fits, c) at e)
-
--- ---- writing, by its verdict
-
--- a last condition that does not apply changes nothing
-last-passes : (xs : List Rule) (r : Rule) → r.applies ≡ false → first_of (xs ++ (r ∷ [])) ≡ first_of xs
-last-passes xs r e = go (first_of xs) refl
-  where
-    go : (v : Verdict) → first_of xs ≡ v → first_of (xs ++ (r ∷ [])) ≡ first_of xs
-    go clear c = part-clear xs (r ∷ []) c ∙ first_passes r [] e ∙ first-none ∙ sym c
-    go (refuse k p) c = part-refused xs (r ∷ []) k p c ∙ sym c
-
--- reading a sheet has no 6
-abbrev NotSix : ℕ → ℕ → Type 0
-NotSix k p = k ≡ 6 → ⊥
-
-records_not_six : (sheet : List ℕ) (i k : ℕ) → Every NotSix (record_rules sheet i k)
-unfolding record_rules
-records_not_six sheet i zero = tt
-records_not_six sheet i (suc k) = (λ e. omega arith, (λ e. omega arith, records_not_six sheet (i + 1) k))
-
-differ_not_six : (sheet rebuilt : List ℕ) (i k : ℕ) → Every NotSix (differ_rules sheet rebuilt i k)
-unfolding differ_rules
-differ_not_six sheet rebuilt i zero = tt
-differ_not_six sheet rebuilt i (suc k) = (λ e. omega arith, differ_not_six sheet rebuilt (i + 1) k)
-
-read_not_six : (sheet : List ℕ) (p : ℕ) → first_of (read_order sheet) ≡ refuse 6 p → ⊥
-read_not_six sheet p e =
-    let n : ℕ = record_count sheet in
-    every_first NotSix (read_order sheet) 6 p
-    (every_append NotSix (shape_order sheet) (rebuild_order sheet) (λ e. omega arith, records_not_six sheet 0 n)
-    (λ e. omega arith, (λ e. omega arith, (λ e. omega arith, differ_not_six sheet (rebuilt_from sheet) 0 n))))
-    (first_found (read_order sheet) 6 p e) refl
-
-module _ (sheet : List ℕ) (room : ℕ) where
-  abbrev size : ℕ
-  size = text_size (record_count sheet)
-
-  -- "6 for a buffer below n(n(n+1)+1) bytes" comes last, so with room enough writing judges as reading the sheet does
-  pub write_as_read : text_size (record_count sheet) ≤ room → write_text_answer sheet room ≡ read_answer sheet
-  unfolding write_text_answer read_answer
-  write_as_read fits =
-      ap (λ (v : Verdict). issued_of v (summary_in sheet))
-      (last-passes (read_order sheet) (text_room_rule (record_count sheet) room) (le-ltb room size fits))
-
-  -- "writing has those of reading a sheet", whatever the room
-  pub write_refused_as_read : (r : Refusal) → read_answer sheet ≡ issued.Refused r → write_text_answer sheet room ≡ issued.Refused r
-  unfolding write_text_answer read_answer answer_of
-  write_refused_as_read r e = go (first_of (read_order sheet)) refl
-    where
-      go : (v : Verdict) → first_of (read_order sheet) ≡ v → write_text_answer sheet room ≡ issued.Refused r
-      go clear c = absurd (not_refused (summary_in sheet) r (rw c at e))
-      go (refuse k p) c = rw (part-refused (read_order sheet) (text_room_rule (record_count sheet) room ∷ []) k p c) (rw c at e)
-
-  -- done exactly if reading the sheet is and there is room, and with the same answer
-  pub write_done_exactly : (t : Summary) → (write_text_answer sheet room ≡ issued.Done t) ↔ ((read_answer sheet ≡ issued.Done t) × (text_size (record_count sheet) ≤ room))
-  unfolding write_text_answer
-  write_done_exactly t = (
-    λ e.
-        let x = parts-clear (read_order sheet) (text_room_rule (record_count sheet) room ∷ []) (done-clear (first_of (write_text_order sheet room)) (summary_in sheet) t e) in
-        let fits : text_size (record_count sheet) ≤ room = ltb-false room size (first-clear (text_room_rule (record_count sheet) room) [] x.1).0 in
-        (sym (write_as_read fits) ∙ e, fits),
-    λ x. write_as_read x.1 ∙ x.0,
-  )
-
-  -- 6 exactly if reading accepts the sheet and the room is less
-  pub write_room_exactly : (write_text_answer sheet room ≡ issued.Refused (refusal_at 6 0))
-      ↔ ((read_answer sheet ≡ issued.Done (summary_in sheet)) × (room < text_size (record_count sheet)))
-  unfolding write_text_answer read_answer answer_of
-  write_room_exactly = (λ e. few e (first_of (read_order sheet)) refl, λ x. short x.1 (done-clear (first_of (read_order sheet)) (summary_in sheet) (summary_in sheet) x.0))
-    where
-      short : room < text_size (record_count sheet) → first_of (read_order sheet) ≡ clear → write_text_answer sheet room ≡ issued.Refused (refusal_at 6 0)
-      short h c =
-          rw (part-clear (read_order sheet) (text_room_rule (record_count sheet) room ∷ []) c, first-applies (text_room_rule (record_count sheet) room) [] (lt-ltb room (text_size (record_count sheet)) h)) refl
-
-      few : write_text_answer sheet room ≡ issued.Refused (refusal_at 6 0) → (v : Verdict) → first_of (read_order sheet) ≡ v
-          → (read_answer sheet ≡ issued.Done (summary_in sheet)) × (room < text_size (record_count sheet))
-      few e clear c = (
-        rw c refl,
-        ⊎_elim
-            (λ (h : room < text_size (record_count sheet)). h)
-            (λ (h : text_size (record_count sheet) ≤ room).
-            absurd (not_refused (summary_in sheet) (refusal_at 6 0) (rw (last-passes (read_order sheet) (text_room_rule (record_count sheet) room) (le-ltb room (text_size (record_count sheet)) h), c) at e)))
-            (order room (text_size (record_count sheet))),
-      )
-      few e (refuse k p) c =
-          let q : issued.Refused (refusal_at k p) ≡ issued.Refused (refusal_at 6 0) = rw (part-refused (read_order sheet) (text_room_rule (record_count sheet) room ∷ []) k p c) at e in
-          let y : refusal_at k p ≡ refusal_at 6 0 = cc in
-          absurd (read_not_six sheet p (c ∙ ap (λ (m : ℕ). refuse m p) (ap (λ (r : Refusal). r.number) y)))

@@ -10,7 +10,6 @@ pub mod Figure
 pub mod Counting
 pub mod Putting
 pub mod Comparing
-pub mod Matching
 pub mod Judging
 pub mod Exact
 pub mod Places

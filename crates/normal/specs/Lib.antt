@@ -9,14 +9,10 @@ pub mod Selected
 pub mod Coordinates
 pub mod Products
 pub mod ProductBits
-pub mod Conjugated
 pub mod Graded
 pub mod Filling
 pub mod Turns
 pub mod Summed
 pub mod Recursion
-pub mod ConjugateSide
 pub mod Standing
-pub mod Building
-pub mod Reference
 pub mod Halves

@@ -3,29 +3,27 @@
 -- half of k (`power_half_even`, `power_half_odd`); 0 divided is 0 (`quotient-zero`); powers, inverses and quotients are below 2^n (`power-lt`,
 -- `inverse-lt`, `quotient-lt`).
 -- Assumes nothing.
-use Rattle.std.specs.Prelude.{◌≡◌, List, ℕ, zero, suc, ◌-◌, ◌*◌, ◌/◌, ◌%◌, ◌^◌, ◌≤◌, ◌<◌, length, get_or}
+use Rattle.std.specs.Prelude.{◌≡◌, List, ℕ, zero, suc, ◌-◌, ◌*◌, ◌/◌, ◌%◌, ◌≤◌, ◌<◌}
 use Rattle.std.proofs.Math.Path.{refl, ap}
 use Rattle.std.proofs.Common.{sym, ◌∙◌, le_refl, arith}
 use Rattle.std.proofs.Math.Logic.{⊎_elim}
 use borrow.Author.Tests.{le-leb, lt-leb, eq-eqb, ne_eqb}
 use Rattle.gf2.specs.Numbers.{bit_cases, mod-two-lt, order}
 use Rattle.normal.specs.TableProduct.{rotate, rotated_by, table_product}
-use Rattle.normal.specs.Rotation.{rotate-lt}
-use Rattle.normal.specs.ProductBits.{table_product-lt, table_product-zero}
-use Rattle.normal.specs.Powers.{even_power, odd_power, power_within, power_of, inverse_of, quotient_of}
+use Rattle.normal.specs.Powers.{even_power, odd_power, power_within, power_of}
 
 module _ (n : ℕ) (rows : List ℕ) (a : ℕ) where
   -- ---- one step
 
-  step-one : (s k : ℕ) → k ≤ 1 → power_within (suc s) n rows k a ≡ a
+  pub step-one : (s k : ℕ) → k ≤ 1 → power_within (suc s) n rows k a ≡ a
   unfolding power_within
   step-one s k h = rw (le-leb k 1 h)
 
-  step_even : (s k : ℕ) → 1 < k → k % 2 ≡ 0 → power_within (suc s) n rows k a ≡ even_power n rows (k / 2) (power_within s n rows (k / 2) a)
+  pub step_even : (s k : ℕ) → 1 < k → k % 2 ≡ 0 → power_within (suc s) n rows k a ≡ even_power n rows (k / 2) (power_within s n rows (k / 2) a)
   unfolding power_within
   step_even s k h e = rw (lt-leb k 1 h, eq-eqb (k % 2) 0 e)
 
-  step_odd : (s k : ℕ) → 1 < k → k % 2 ≡ 1 → power_within (suc s) n rows k a ≡ odd_power n rows (power_within s n rows (k - 1) a) a
+  pub step_odd : (s k : ℕ) → 1 < k → k % 2 ≡ 1 → power_within (suc s) n rows k a ≡ odd_power n rows (power_within s n rows (k - 1) a) a
   unfolding power_within
   step_odd s k h e = rw (lt-leb k 1 h, ne_eqb (k % 2) 0 (λ z. omega arith))
 
@@ -119,36 +117,3 @@ module _ (n : ℕ) (rows : List ℕ) (a : ℕ) where
       let q : (k - 1) / 2 ≡ k / 2 = omega arith in
       let s : even ≡ power_of n rows (k - 1) a = power_half_even (k - 1) half turned even (omega arith) (omega arith) (eh ∙ ap (λ (x : ℕ). power_of n rows x a) (sym q)) (et ∙ ap (λ (x : ℕ). rotated_by n x half) (sym q)) ee in
       ew ∙ rw (en, s) (sym (power_odd k l e))
-
--- ---- 0 divided, through any rows
-
-pub quotient-zero : (n : ℕ) (rows : List ℕ) (a : ℕ) → quotient_of n rows 0 a ≡ 0
-unfolding quotient_of
-quotient-zero n rows a = table_product-zero n rows (inverse_of n rows a)
-
--- ---- the numbers are below 2^n
-
-module _ (n : ℕ) (pos : 1 ≤ n) (T : List ℕ) (size : length T ≡ n) (row_lt : (i : ℕ) → i < n → get_or T i 0 < 2 ^ n) where
-  within-lt : (s k a : ℕ) → a < 2 ^ n → power_within s n T k a < 2 ^ n
-  within-lt zero k a h = unfold power_within in h
-  within-lt (suc s) k a h =
-      ⊎_elim
-      (λ (l : k < 2). rw (step-one n T a s k (omega arith)) h)
-      (λ (l : 2 ≤ k).
-      ⊎_elim
-      (λ (e : k % 2 ≡ 0). rw (step_even n T a s k l e) (table_product-lt n pos T size row_lt _ (power_within s n T (k / 2) a) (within-lt s (k / 2) a h)))
-      (λ (e : k % 2 ≡ 1). rw (step_odd n T a s k l e) (table_product-lt n pos T size row_lt _ a h))
-      (bit_cases (k % 2) (mod-two-lt k)))
-      (order k 2)
-
-  pub power-lt : (k a : ℕ) → a < 2 ^ n → power_of n T k a < 2 ^ n
-  unfolding power_of
-  power-lt k a h = within-lt k k a h
-
-  pub inverse-lt : (a : ℕ) → a < 2 ^ n → inverse_of n T a < 2 ^ n
-  unfolding inverse_of
-  inverse-lt a h = rotate-lt n pos (power_of n T (n - 1) a) (power-lt (n - 1) a h)
-
-  pub quotient-lt : (b a : ℕ) → a < 2 ^ n → quotient_of n T b a < 2 ^ n
-  unfolding quotient_of
-  quotient-lt b a h = table_product-lt n pos T size row_lt b (inverse_of n T a) (inverse-lt a h)

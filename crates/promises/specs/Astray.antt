@@ -31,14 +31,14 @@ use Rattle.field.specs.Divided.{divided-means}
 use Rattle.field.specs.Field.{squared, trace, trace_to}
 use Rattle.field.specs.Refusals.{too_large_lem, degree_rule, divisor_rule}
 use Rattle.rows.specs.Rows.{comb, independent}
-use Rattle.normal.specs.Conjugated.{normal-trace}
+use Rattle.normal.proofs.Conjugated.{normal-trace}
 use Rattle.normal.specs.Normal.{conjugates_from, conjugates, normal, coordinates, listed, table_rows, complexity}
 use Rattle.normal.specs.Rotation.{rotate_back}
 use Rattle.normal.specs.TableProduct.{rotate}
 use Rattle.search.specs.Answers.{search_answer}
 use Rattle.search.specs.Search.{leader, normal_leader, candidate_of, walked, ranged, joined}
 use Rattle.search.specs.declared.answer.Search.TheVariants.{Nothing}
-use Rattle.sheet.specs.Issuing.{based-degree, based-two, based-returns, based-free}
+use Rattle.sheet.proofs.Issuing.{based-degree, based-two, based-returns, based-free}
 use Rattle.sheet.specs.Sheets.{Based}
 
 -- ---- "Trusting 003's table 6."

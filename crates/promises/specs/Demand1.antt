@@ -11,12 +11,12 @@
 use Rattle.std.specs.Prelude.{◌≡◌, ◌++◌, length, drop}
 use Rattle.std.proofs.Common.{sym, ◌∙◌}
 use Rattle.field.specs.Answers.{check_answer, multiply_answer, square_answer, trace_answer}
-use Rattle.sheet.specs.Answers.{build_answer, built_buffer, read_answer, polynomial_answer, normal_answer, times_answer, inverse_answer, quotient_answer, polynomial_list_answer, polynomial_list, normal_list_answer, normal_list}
+use Rattle.sheet.specs.Answers.{build_answer, built_buffer, polynomial_answer, times_answer, inverse_answer, quotient_answer, polynomial_list_answer, polynomial_list, normal_list_answer, normal_list}
 use Rattle.causes.specs.Causes.{why_answer, why_check_answer, why_build_answer}
 use Rattle.matrices.specs.Answers.{write_text_answer, written_text, read_text_answer}
 use Rattle.search.specs.Answers.{search_answer}
 use Rattle.listing.specs.Text.{listing_of}
-use Rattle.promises.specs.Calls.{Run, Determined, DeterminedWith, check, multiply, square, trace, build, read, why, why-check, why-build, to-polynomial, to-normal, times, inverse, quotient, list-to-polynomial, list-to-normal, write_matrices, read-matrices, search, listing}
+use Rattle.promises.specs.Calls.{Run, Determined, DeterminedWith, check, multiply, square, trace, build, why, why-check, why-build, to-polynomial, to-normal, times, inverse, quotient, list-to-polynomial, list-to-normal, write_matrices, read-matrices, search, listing}
 
 -- ---- the field calls
 
@@ -54,12 +54,6 @@ build_is c = (c.kept.0, c.kept.1.1)
 pub build_determined : DeterminedWith build (λ κs e. e.1.1.0.now)
 build_determined κs a x y e e' p q = (p.0 ∙ sym q.0, p.1.1 ∙ sym q.1.1)
 
-pub read_is : (c : Run read) → c.result ≡ read_answer c.args.0.now
-read_is c = c.kept.0
-
-pub read_determined : Determined read
-read_determined κs a x y e e' p q = p.0 ∙ sym q.0
-
 -- ---- causes
 
 pub why_is : (c : Run why) → c.result ≡ why_answer c.args.0.now
@@ -87,9 +81,6 @@ to-polynomial_is c = c.kept.0
 
 pub to-polynomial_determined : Determined to-polynomial
 to-polynomial_determined κs a x y e e' p q = p.0 ∙ sym q.0
-
-pub to-normal_is : (c : Run to-normal) → c.result ≡ normal_answer c.args.0.now c.args.1.0
-to-normal_is c = c.kept.0
 
 pub to-normal_determined : Determined to-normal
 to-normal_determined κs a x y e e' p q = p.0 ∙ sym q.0

@@ -32,17 +32,17 @@ use Rattle.refusals.specs.declared.answer.Checked.TheVariants as checked
 use Rattle.refusals.specs.declared.answer.Value.TheVariants as value
 use Rattle.rows.specs.Rows.{comb, Independent}
 use Rattle.normal.specs.Normal.{conjugates, normal}
-use Rattle.normal.specs.Coordinates.{normal-means}
+use Rattle.normal.proofs.Coordinates.{normal-means}
 use Rattle.sheet.specs.Record.{record_size, record_count, degree_in, row_in, tail_in, conjugate_in, inverse_in, table_in, polynomial_in, sheet_bytes}
 use Rattle.sheet.specs.Orders.{list_limit, Small}
 use Rattle.sheet.specs.Answers.{issued_of, summary_of, summary_in, build_answer, built_buffer, to_polynomial, polynomial_answer, to_normal, normal_answer, through_table, times_answer, read_answer, polynomial_list_answer, polynomial_list, normal_list_answer, normal_list}
-use Rattle.sheet.specs.Issued.{build_answered, answered_based, build-buffer, build-sheet, read_answered, answered_sheet, polynomial_answered, normal_answered, times_answered, list-normal_answered, list-normal, list-polynomial_answered, list-polynomial}
-use Rattle.sheet.specs.Held.{held-degree, held-row, held_tail, held-conjugate, held-inverse, held-table}
-use Rattle.sheet.specs.Issuing.{free-based, based-degree, based-free, build_tied}
+use Rattle.sheet.proofs.IssuedLaws.{build_answered, answered_based, build-buffer, build-sheet, read_answered, answered_sheet, polynomial_answered, normal_answered, times_answered, list-normal_answered, list-normal, list-polynomial_answered, list-polynomial}
+use Rattle.sheet.proofs.Held.{held-degree, held-row, held_tail, held-conjugate, held-inverse, held-table}
+use Rattle.sheet.proofs.Issuing.{free-based, based-degree, based-free, build_tied}
 use Rattle.sheet.specs.Lists.{map-length, map-agree, map_at, map_below, map-round}
 use Rattle.sheet.specs.Rebuilding.{sheet_bytes-length}
 use Rattle.sheet.specs.Sheets.{Based, SheetOf}
-use Rattle.sheet.specs.Through.{coordinates-lt, there_back, back-there, product_lt, product_of}
+use Rattle.sheet.proofs.Through.{coordinates-lt, there_back, back-there, product_lt, product_of}
 use Rattle.sheet.specs.declared.answer.Summary.{Summary}
 use Rattle.sheet.specs.declared.answer.Issued.TheVariants as issued
 

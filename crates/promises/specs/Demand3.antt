@@ -20,11 +20,12 @@ use Rattle.normal.specs.Normal.{normal, table_rows}
 use Rattle.search.specs.Search.{leader, LeaderOf, normal_leader, complexity_at, with_count, joined, ranged, Answered, count_of, counted, Named}
 use Rattle.search.specs.Answers.{search_answer}
 use Rattle.search.specs.Leaders.{leader-means, leader_exists, leader-normal}
-use Rattle.search.specs.Joined.{joined-count, joined-left, joined-right}
-use Rattle.search.specs.Walks.{ranged_answered, ranged-count}
-use Rattle.search.specs.Named.{ranged-nothing, ranged-found}
-use Rattle.search.specs.Whole.{whole-best, whole-nothing}
-use Rattle.search.specs.Searched.{accepted-answer, search-joined}
+use Rattle.search.specs.Joined.{joined-left}
+use Rattle.search.proofs.Joined.{joined-count, joined-right}
+use Rattle.search.proofs.Walks.{ranged_answered, ranged-count}
+use Rattle.search.proofs.Named.{ranged-nothing, ranged-found}
+use Rattle.search.proofs.Whole.{whole-best, whole-nothing}
+use Rattle.search.proofs.Searched.{accepted-answer, search-joined}
 use Rattle.search.specs.declared.answer.Best.{Best}
 use Rattle.search.specs.declared.answer.Search.TheVariants.{Nothing, Found}
 

@@ -31,10 +31,11 @@ use Rattle.normal.specs.Powers.{power_of}
 use Rattle.sheet.specs.Record.{record_count, conjugate_in, polynomial_in, table_rows_in}
 use Rattle.sheet.specs.Orders.{value_order, times_order}
 use Rattle.sheet.specs.Answers.{read_answer, to_polynomial, polynomial_answer, through_table, times_answer, inverse_through, inverse_answer, quotient_through, quotient_answer}
-use Rattle.sheet.specs.Divided.{inverse_earlier, inverse_of_zero, inverse_steps, quotient_earlier, quotient_by_zero, quotient_steps, divisor-clear, quotient-through, zero-quotient, inverse_answered, quotient_answered, power_below, power-element, inverse-below, inverse-element, quotient-below, product-inverse, inverse-product, quotient-product, quotient-alone, one_below, one-element}
-use Rattle.sheet.specs.Issued.{polynomial_answered, times_answered}
+use Rattle.sheet.specs.Divided.{inverse_earlier, inverse_of_zero, inverse_steps, zero-quotient}
+use Rattle.sheet.proofs.Divided.{quotient_earlier, quotient_by_zero, quotient_steps, divisor-clear, quotient-through, inverse_answered, quotient_answered, power_below, power-element, inverse-below, inverse-element, quotient-below, product-inverse, inverse-product, quotient-product, quotient-alone, one_below, one-element}
+use Rattle.sheet.proofs.IssuedLaws.{polynomial_answered, times_answered}
 use Rattle.sheet.specs.Sheets.{SheetOf}
-use Rattle.sheet.specs.Through.{product_of}
+use Rattle.sheet.proofs.Through.{product_of}
 use Rattle.sheet.specs.declared.answer.Summary.{Summary}
 use Rattle.sheet.specs.declared.answer.Issued.TheVariants as issued
 use Rattle.promises.specs.Calls.{Run, inverse, quotient}

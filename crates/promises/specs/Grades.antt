@@ -20,23 +20,24 @@ use Rattle.field.specs.Checked.{accepted-degree, accepted-returns}
 use Rattle.field.specs.Frobenius.{squared-lt}
 use Rattle.rows.specs.Rows.{Independent}
 use Rattle.normal.specs.Normal.{conjugates, normal, table_rows, complexity}
-use Rattle.normal.specs.Coordinates.{normal-means}
-use Rattle.normal.specs.Conjugated.{conjugate-normal, complexity_of_conjugate}
+use Rattle.normal.proofs.Coordinates.{normal-means}
+use Rattle.normal.proofs.Conjugated.{conjugate-normal, complexity_of_conjugate}
 use Rattle.normal.specs.Grades.{grade_number}
-use Rattle.normal.specs.Graded.{Says, grade_says, grade_of_conjugate}
+use Rattle.normal.specs.Graded.{Says}
+use Rattle.normal.proofs.Graded.{grade_says, grade_of_conjugate}
 use Rattle.sheet.specs.Record.{record_size, record_count, conjugate_in, polynomial_in}
 use Rattle.sheet.specs.Answers.{summary_of, build_answer, read_answer}
-use Rattle.sheet.specs.Issued.{answered_based, answered_sheet}
+use Rattle.sheet.proofs.IssuedLaws.{answered_based, answered_sheet}
 use Rattle.sheet.specs.declared.answer.Summary.{Summary}
 use Rattle.sheet.specs.declared.answer.Issued.TheVariants as issued
 use Rattle.listing.specs.Text.{row_lines, last_line, listing_by, listing_of}
 use Rattle.search.specs.Search.{LeaderOf, complexity_at, grade_at}
 use Rattle.search.specs.Answers.{search_answer}
-use Rattle.search.specs.Searched.{answer-own}
+use Rattle.search.proofs.Searched.{answer-own}
 use Rattle.search.specs.declared.answer.Best.{Best}
 use Rattle.search.specs.declared.answer.Search.TheVariants.{Found}
-use Rattle.promises.specs.Calls.{Run, build, read, search}
-use Rattle.promises.specs.Demand1.{build_is, read_is, search_is}
+use Rattle.promises.specs.Calls.{Run, build, search}
+use Rattle.promises.specs.Demand1.{build_is, search_is}
 use Rattle.promises.specs.Demand2.{issued_exactly}
 
 -- c is the complexity of the basis of a, and k says what §3 has a grade's number say
@@ -108,10 +109,6 @@ module _ (f : ℕ) (accepted : Accepted f) (a : ℕ) (element : a < 2 ^ degree f
 pub build_grades_runs : (c : Run build) (t : Summary) → c.result ≡ issued.Done t
     → Graded c.args.0 (degree c.args.0) c.args.1.0 t.complexity (grade_number t.grade)
 build_grades_runs c t e = build_grades c.args.0 c.args.1.0 (length c.args.1.1.0.now) t (sym (build_is c).0 ∙ e)
-
-pub read_grades_runs : (c : Run read) (t : Summary) → c.result ≡ issued.Done t
-    → Graded (polynomial_in c.args.0.now) (record_count c.args.0.now) (conjugate_in c.args.0.now 0) t.complexity (grade_number t.grade)
-read_grades_runs c t e = read_grades c.args.0.now t (sym (read_is c) ∙ e)
 
 pub search_grades_runs : (c : Run search) (x : Best) → c.result ≡ Found x
     → Graded c.args.0 (degree c.args.0) x.element x.complexity (grade_number x.grade)

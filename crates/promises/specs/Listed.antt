@@ -14,11 +14,12 @@ use Rattle.refusals.specs.Verdicts.{Rule}
 use Rattle.field.specs.Refusals.{element_rule, multiply_order, square_order, trace_order, check_order}
 use Rattle.sheet.specs.Record.{record_count, conjugate_in, polynomial_in}
 use Rattle.sheet.specs.Orders.{record_rules, differ_rules, value_rules, list_rule, zero_rule, shape_order, basis_order, rebuilt_from, build_order, read_order, value_order, normal_order, list_order, polynomial_list_order, normal_list_order}
-use Rattle.sheet.specs.Listed.{OnShape, OnReading, shape-listed, read-listed}
+use Rattle.sheet.specs.Listed.{OnShape, OnReading}
+use Rattle.sheet.proofs.Listed.{shape-listed, read-listed}
 use Rattle.matrices.specs.Matrices.{matrices_text, line_count}
 use Rattle.matrices.specs.Orders.{text_room_rule, match_rule, write_text_order, read_text_order}
 use Rattle.matrices.specs.Judging.{based_order_lem, based-listed}
-use Rattle.matrices.specs.Places.{place-most}
+use Rattle.matrices.proofs.Places.{place-most}
 use Rattle.search.specs.Answers.{search_order}
 use Rattle.refusals.specs.Told.{AtZero, Below, Every, numbers_of}
 use Rattle.refusals.specs.Telling.{every_append, every_also, listed-at-zero, at-zero-positive, below-positive}

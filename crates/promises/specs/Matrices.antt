@@ -24,22 +24,23 @@ use Rattle.normal.specs.Normal.{table_rows, complexity}
 use Rattle.normal.specs.TableProduct.{entry}
 use Rattle.sheet.specs.Record.{record_size, record_count, conjugate_in, polynomial_in, table_rows_in}
 use Rattle.sheet.specs.Answers.{build_answer, built_buffer, read_answer}
-use Rattle.sheet.specs.Held.{table-rows}
+use Rattle.sheet.proofs.Held.{table-rows}
 use Rattle.sheet.specs.Sheets.{Based}
 use Rattle.sheet.specs.declared.answer.Summary.{Summary}
 use Rattle.sheet.specs.declared.answer.Issued.TheVariants as issued
 use Rattle.matrices.specs.Matrices.{matrix_entry, line_end, line_bytes, matrices_text, matrix_size, text_size}
 use Rattle.matrices.specs.Orders.{count_of, common}
 use Rattle.matrices.specs.Answers.{text_in, write_text_answer, written_text, read_text_answer}
-use Rattle.matrices.specs.Blocks.{text_line}
+use Rattle.matrices.proofs.Blocks.{text_line}
 use Rattle.matrices.specs.CommonLines.{common-left, common-right, common_longest}
 use Rattle.matrices.specs.Counting.{one_byte}
 use Rattle.matrices.specs.Entries.{entry-table}
-use Rattle.matrices.specs.Exact.{text_given, written_front, given-degree, given-ones, GivenFor, reading_accepts, built_sheet, write_built, reading_built, reading_whole}
+use Rattle.matrices.specs.Exact.{text_given, GivenFor, built_sheet}
+use Rattle.matrices.proofs.Exact.{written_front, given-degree, given-ones, reading_accepts, write_built, reading_built, reading_whole}
 use Rattle.matrices.specs.Figure as figure
 use Rattle.matrices.specs.Figure.{matrix_ones_lem}
 use Rattle.matrices.specs.Judging.{text_done_as_build, text_refused_as_build}
-use Rattle.matrices.specs.Places.{text_differs_exactly}
+use Rattle.matrices.proofs.Places.{text_differs_exactly}
 use Rattle.promises.specs.Calls.{Run, build, write_matrices, read-matrices}
 use Rattle.promises.specs.Demand1.{build_is, write_matrices_is, read-matrices_is}
 use Rattle.promises.specs.Demand2.{accepted-sheet}

@@ -16,9 +16,8 @@ use Rattle.refusals.specs.declared.answer.Checked.TheVariants as checked
 use Rattle.field.specs.Answers.{check_answer, multiply_answer, square_answer, trace_answer}
 use Rattle.field.specs.Refusals.{multiply_order, square_order, trace_order, check_order}
 use Rattle.sheet.specs.Record.{record_count}
-use Rattle.sheet.specs.Orders.{build_order, read_order, polynomial_order, normal_order, times_order, inverse_order, quotient_order, polynomial_list_order, normal_list_order}
-use Rattle.sheet.specs.Listed.{OnShape, OnReading, shape-listed, read-listed}
-use Rattle.sheet.specs.Answers.{issue_of, issued_of, issued_report, build_answer, built_buffer, read_answer, polynomial_answer, normal_answer, times_answer, inverse_answer, quotient_answer, polynomial_list_answer, polynomial_list, normal_list_answer, normal_list}
+use Rattle.sheet.specs.Orders.{build_order, polynomial_order, times_order, inverse_order, quotient_order, polynomial_list_order, normal_list_order}
+use Rattle.sheet.specs.Answers.{issue_of, issued_of, issued_report, build_answer, built_buffer, polynomial_answer, times_answer, inverse_answer, quotient_answer, polynomial_list_answer, polynomial_list, normal_list_answer, normal_list}
 use Rattle.sheet.specs.Answered.{issued_report_lem}
 use Rattle.sheet.specs.declared.answer.Summary.{Summary}
 use Rattle.sheet.specs.declared.answer.Issued.{Issued}
@@ -28,13 +27,13 @@ use Rattle.matrices.specs.Answers.{write_text_answer, read_text_answer}
 use Rattle.matrices.specs.Exact.{written_kept}
 use Rattle.search.specs.Answers.{search_order, search_of, search_answer, case_report, refused_report}
 use Rattle.search.specs.Search.{ranged, Answered, nothing, found}
-use Rattle.search.specs.Walks.{ranged_answered}
+use Rattle.search.proofs.Walks.{ranged_answered}
 use Rattle.search.specs.declared.answer.Search.{Search}
 use Rattle.search.specs.declared.answer.Search.TheVariants as searched
 use Rattle.promises.specs.Calls as calls
 use Rattle.promises.specs.Calls.{Run}
-use Rattle.promises.specs.Demand1.{check_is, multiply_is, square_is, trace_is, build_is, read_is, to-polynomial_is, to-normal_is, times_is, inverse_is, quotient_is, list-to-polynomial_is, list-to-normal_is, write_matrices_is, read-matrices_is, search_is}
-use Rattle.promises.specs.Listed.{OnValue, OnDivision, OnWords, OnList, OnWritingText, OnReadingText, multiply-listed, square-listed, trace-listed, check-listed, build-listed, search-listed, shape-positive, value-listed, value-positive, division_listed, division_positive, words_listed, words_positive, list-listed, list-positive, read-positive, write_listed, write_positive, text_listed, text_positive}
+use Rattle.promises.specs.Demand1.{check_is, multiply_is, square_is, trace_is, build_is, to-polynomial_is, times_is, inverse_is, quotient_is, list-to-polynomial_is, list-to-normal_is, write_matrices_is, read-matrices_is, search_is}
+use Rattle.promises.specs.Listed.{OnValue, OnDivision, OnWords, OnList, OnWritingText, OnReadingText, multiply-listed, square-listed, trace-listed, check-listed, build-listed, search-listed, value-listed, value-positive, division_listed, division_positive, words_listed, words_positive, list-listed, list-positive, write_listed, write_positive, text_listed, text_positive}
 use Rattle.refusals.specs.Told.{AtZero, AllZero, Every, Told, ValueTold, CheckedTold, number_of, place_of}
 use Rattle.refusals.specs.Telling.{nonzero, placed-zero, at-zero-positive, told, value_told, checked_told}
 
@@ -136,19 +135,11 @@ pub build_told : (c : Run calls.build) → IssuedTold (build_order c.args.0 c.ar
 unfolding build_answer
 build_told c = rw (build_is c).0 (issued_told _ _ (build-listed c.args.0 c.args.1.0 (length c.args.1.1.0.now)) (at-zero-positive (1 ∷ 4 ∷ 6 ∷ 2 ∷ 3 ∷ 5 ∷ []) refl) _)
 
-pub read_told : (c : Run calls.read) → IssuedTold (read_order c.args.0.now) (OnReading (record_count c.args.0.now)) c.result
-unfolding read_answer
-read_told c = rw (read_is c) (issued_told _ _ (read-listed c.args.0.now) (read-positive (record_count c.args.0.now)) _)
-
 -- ---- single values through a sheet
 
 pub to-polynomial_told : (c : Run calls.to-polynomial) → ValueTold (polynomial_order c.args.0.now c.args.1.0) (OnValue (record_count c.args.0.now)) c.result
 unfolding polynomial_answer
 to-polynomial_told c = rw (to-polynomial_is c) (value_told _ _ (value-listed c.args.0.now (c.args.1.0 ∷ [])) (value-positive (record_count c.args.0.now)) _)
-
-pub to-normal_told : (c : Run calls.to-normal) → ValueTold (normal_order c.args.0.now) (OnShape (record_count c.args.0.now)) c.result
-unfolding normal_answer
-to-normal_told c = rw (to-normal_is c) (value_told _ _ (shape-listed c.args.0.now) (shape-positive (record_count c.args.0.now)) _)
 
 pub times_told : (c : Run calls.times) → ValueTold (times_order c.args.0.now c.args.1.0 c.args.1.1.0) (OnValue (record_count c.args.0.now)) c.result
 unfolding times_answer

@@ -14,7 +14,8 @@ use Rattle.field.specs.Answers.{check_answer, check_report, multiply_answer, mul
 use Rattle.field.specs.Refusals.{multiply_order, square_order, trace_order, check_order}
 use Rattle.sheet.specs.Record.{record_count}
 use Rattle.sheet.specs.Orders.{build_order, read_order, polynomial_order, normal_order, times_order, inverse_order, quotient_order, polynomial_list_order, normal_list_order}
-use Rattle.sheet.specs.Listed.{OnShape, OnReading, shape-listed, read-listed}
+use Rattle.sheet.specs.Listed.{OnShape, OnReading}
+use Rattle.sheet.proofs.Listed.{shape-listed, read-listed}
 use Rattle.sheet.specs.Answers.{issue_of, build_answer, build_report, built_buffer, read_answer, read_report, polynomial_answer, polynomial_report, normal_answer, normal_report, times_answer, times_report, inverse_answer, inverse_report, quotient_answer, quotient_report, polynomial_list_answer, polynomial_list_report, polynomial_list, normal_list_answer, normal_list_report, normal_list}
 use Rattle.sheet.specs.declared.answer.Summary.{Summary}
 use Rattle.sheet.specs.declared.answer.Issued.{Issued}
@@ -24,7 +25,7 @@ use Rattle.matrices.specs.Answers.{write_text_answer, write_text_report, written
 use Rattle.search.specs.Answers.{search_order, search_of, search_answer, search_report, refused_report}
 use Rattle.search.specs.Answers as answers
 use Rattle.search.specs.Search.{ranged, Answered}
-use Rattle.search.specs.Walks.{ranged_answered}
+use Rattle.search.proofs.Walks.{ranged_answered}
 use Rattle.search.specs.declared.answer.Search.{Search}
 use Rattle.capi.specs.Answers.{found_flag}
 use Rattle.capi.specs.declared.answer.DeskValue.{DeskValue}

@@ -26,11 +26,12 @@ use Rattle.rows.specs.Rows.{comb}
 use Rattle.sheet.specs.Record.{record_count, polynomial_in, inverse_rows_in}
 use Rattle.sheet.specs.Orders.{shape_order, list_order}
 use Rattle.sheet.specs.Answers.{element_in, to_normal, normal_answer, normal_list_answer, normal_list}
-use Rattle.sheet.specs.Clear.{clear-shaped, polynomial-degree}
+use Rattle.sheet.specs.Clear.{polynomial-degree}
+use Rattle.sheet.proofs.Clear.{clear-shaped}
 use Rattle.sheet.specs.Lists.{map-length, map-agree}
-use Rattle.promises.specs.Calls.{Run, multiply, square, to-normal, list-to-normal}
+use Rattle.promises.specs.Calls.{Run, multiply, square, list-to-normal}
 use Rattle.promises.specs.Calls as calls
-use Rattle.promises.specs.Demand1.{multiply_is, square_is, trace_is, to-normal_is, list-to-normal_is}
+use Rattle.promises.specs.Demand1.{multiply_is, square_is, trace_is, list-to-normal_is}
 
 -- a refusal carries no value
 pub refused-same : (k p x y : ℕ) → value_of (refuse k p) x ≡ value_of (refuse k p) y
@@ -116,9 +117,6 @@ square_runs c d ef ea = square_is c ∙ square-remainder c.args.0 c.args.1.0 ∙
 
 pub trace_runs : (c d : Run calls.trace) → d.args.0 ≡ c.args.0 → d.args.1.0 ≡ element c.args.0 c.args.1.0 → c.result ≡ d.result
 trace_runs c d ef ea = trace_is c ∙ trace-remainder c.args.0 c.args.1.0 ∙ sym (trace_is d ∙ rw (ef, ea))
-
-pub to-normal_runs : (c d : Run to-normal) → d.args.0.now ≡ c.args.0.now → d.args.1.0 ≡ element_in c.args.0.now c.args.1.0 → c.result ≡ d.result
-to-normal_runs c d es ew = to-normal_is c ∙ normal-remainder c.args.0.now c.args.1.0 ∙ sym (to-normal_is d ∙ rw (es, ew))
 
 pub list-to-normal_runs : (c d : Run list-to-normal) → d.args.0.now ≡ c.args.0.now
     → d.args.1.0.now ≡ map (element_in c.args.0.now) c.args.1.0.now → d.args.1.1.0.now ≡ c.args.1.1.0.now

@@ -21,9 +21,9 @@ use Rattle.elements.specs.Ones.{Within}
 use Rattle.elements.specs.Decided.{Decides}
 use Rattle.elements.specs.declared.deciding.Decided.{Decided}
 use Rattle.elements.specs.declared.deciding.Decided.TheVariants as decided
-use Rattle.search.specs.Search.{leader, complexity_at, found_by, precedes, with_count, better, joined, candidate_of, count_of}
+use Rattle.search.specs.Search.{leader, complexity_at, found_by, better, joined, candidate_of, count_of}
 use Rattle.search.specs.Preceding.{Precedes, precedes-means}
-use Rattle.search.specs.Joined.{before, better-right, better-left, joined-nothing}
+use Rattle.search.specs.Joined.{before, better-left, joined-nothing}
 use Rattle.search.specs.Walks.{candidate_is, candidate_none, normal-leader, not_normal}
 use Rattle.search.specs.declared.answer.Best.{Best}
 use Rattle.search.specs.declared.answer.Search.{Search}
@@ -100,21 +100,6 @@ pub operand_of : {f n a : ℕ} → ElementOf f n a → Operand f n a
 operand_of s =
     let d = s.of_field in
     record { in_range = record { two = d.two; most = d.most; is_degree = d.is_degree }; small = s.below }
-
-module _ (f n a : ℕ) where
-  pub found_once : (c : ℕ) → with_count (found_by f n a c) 1 ≡ found_by f n a c
-  unfolding found_by
-  found_once c = refl
-
-  module _ (x : Best) (c : ℕ) where
-    -- a new best
-    pub better-new : precedes c a x.complexity x.element ≡ true → better x (found_by f n a c) ≡ with_count (found_by f n a c) (x.count + 1)
-    unfolding found_by
-    better-new e = better-right x (found_by f n a c) e
-
-    pub better-kept : precedes c a x.complexity x.element ≡ false → better x (found_by f n a c) ≡ with_count x (x.count + 1)
-    unfolding found_by
-    better-kept e = better-left x (found_by f n a c) e
 
 -- ---- the leader a
 

@@ -13,8 +13,8 @@ use Rattle.field.specs.Field.{squared}
 use Rattle.field.specs.Frobenius.{squared-add, squared_fixes}
 use Rattle.rows.specs.Rows.{Independent}
 use Rattle.normal.specs.Normal.{conjugates, normal, table_rows}
-use Rattle.normal.specs.Coordinates.{normal-means}
-use Rattle.normal.specs.Conjugated.{conjugate-normal, table_of_conjugate}
+use Rattle.normal.proofs.Coordinates.{normal-means}
+use Rattle.normal.proofs.Conjugated.{conjugate-normal, table_of_conjugate}
 use Rattle.search.specs.Search.{leader, LeaderOf}
 
 -- ---- the test

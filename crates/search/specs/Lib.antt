@@ -7,7 +7,4 @@ pub mod Joined
 pub mod Walks
 pub mod Joining
 pub mod Begun
-pub mod Named
-pub mod Whole
 pub mod Orders
-pub mod Searched

@@ -1,20 +1,17 @@
 -- Laws of the search's order: what a path through its conditions finds, what it leaves where none of them applies, and how that gives the
 -- answer with its numbers. What the call answers for an accepted f and over adjoining ranges: `Searched`.
 -- Assumes nothing.
-use Rattle.std.specs.Prelude.{◌≡◌, refl, true, false, ◌||◌, [], ◌∷◌, ℕ, ◌≤◌, ◌<◌}
-use Rattle.std.proofs.Common.{ap, ◌∙◌, lt-ltb, le-ltb, ltb-false}
+use Rattle.std.specs.Prelude.{◌≡◌, refl, false, ℕ}
+use Rattle.std.proofs.Common.{ap, ◌∙◌}
 use Rattle.gf2.specs.Poly.{degree}
-use Rattle.gf2.specs.Truth.{or_right}
 use Rattle.refusals.specs.Verdicts.{Verdict, clear, refuse, first_of}
-use Rattle.refusals.specs.Orders.{first-applies, first_passes, first-clear, part-refused, part-clear, parts-clear}
 use Rattle.refusals.specs.Answers.{answer_of}
 use Rattle.field.specs.Accepted.{degree_outside, Accepted}
-use Rattle.field.specs.Refusals.{too_large_lem, degree_rule, operand_order, field_order}
-use Rattle.field.specs.Orders.{in_range, operand-inside, element_large, none_large, operands_judged}
+use Rattle.field.specs.Refusals.{field_order}
+use Rattle.field.specs.Orders.{in_range}
 use Rattle.field.specs.Checked.{field_accepts, accepted-irreducible, accepted-returns}
 use Rattle.elements.specs.Fields.{FieldOf}
-use Rattle.search.specs.Answers.{range_rule, search_order, search_of, case_report, report_of}
-use Rattle.search.specs.Begun.{RangeOf}
+use Rattle.search.specs.Answers.{search_of, case_report, report_of}
 use Rattle.search.specs.declared.answer.Search.{Search}
 
 -- ---- the answers
@@ -27,33 +24,6 @@ search_report_lem (refuse k p) x = refl
 -- the clauses of the promise, from the first of them
 pub search-promised : (v : Verdict) (x : Search) {r : Search} → r ≡ search_of v x → (r ≡ search_of v x) × (case_report r ≡ report_of v x)
 search-promised v x e = (e, ap case_report e ∙ search_report_lem v x)
-
--- ---- 12
-
-module _ (f first last : ℕ) where
-  pub range_empty : last < first → first_of (range_rule first last ∷ field_order f) ≡ refuse 12 0
-  range_empty l = first-applies (range_rule first last) _ (lt-ltb last first l)
-
-  pub range_past : first ≤ last → first_of (range_rule first last ∷ field_order f) ≡ first_of (field_order f)
-  range_past l = first_passes (range_rule first last) _ (le-ltb last first l)
-
-  -- ---- along the order
-
-  pub search-outside : degree_outside f ≡ true → first_of (search_order f first last) ≡ refuse 1 0
-  search-outside e = first-applies (degree_rule f) _ e
-
-  module _ (inside : degree_outside f ≡ false) where
-    pub search-last : too_large_lem (degree f) last ≡ true → first_of (search_order f first last) ≡ refuse 4 0
-    search-last e =
-        part-refused (operand_order f (first ∷ last ∷ [])) (range_rule first last ∷ field_order f) 4 0
-        (operand-inside f (degree f) (first ∷ last ∷ []) refl inside
-        ∙ element_large (degree f) (first ∷ last ∷ []) (or_right (too_large_lem (degree f) first) (too_large_lem (degree f) last || false) (rw e)))
-
-    pub search-past : too_large_lem (degree f) first ≡ false → too_large_lem (degree f) last ≡ false → first ≤ last → first_of (search_order f first last) ≡ first_of (field_order f)
-    search-past p q l =
-        part-clear (operand_order f (first ∷ last ∷ [])) (range_rule first last ∷ field_order f)
-        (operand-inside f (degree f) (first ∷ last ∷ []) refl inside ∙ none_large (degree f) first last p q)
-        ∙ range_past l
 
 -- ---- what the order leaves where none of its conditions applies
 
@@ -68,15 +38,4 @@ clear-field f n en inside e =
       is_degree = d.is_degree;
       irreducible = accepted-irreducible f accepted;
       returns = rw en (accepted-returns f accepted);
-    }
-
-pub clear_range : (f n first last : ℕ) → n ≡ degree f → first_of (search_order f first last) ≡ clear → RangeOf f n first last
-clear_range f n first last en e =
-    let s = parts-clear (operand_order f (first ∷ last ∷ [])) (range_rule first last ∷ field_order f) e in
-    let ends = operands_judged f n first en last s.0 in
-    let range = first-clear (range_rule first last) (field_order f) s.1 in
-    record {
-      of_field = clear-field f n en (first-clear (degree_rule f) _ e).0 range.1;
-      ordered = ltb-false last first range.0;
-      elements = ends.1.small;
     }

@@ -1,15 +1,12 @@
 -- The answers of build and reading, by their verdict: what both clauses of a promise say follows from the first, and what a done
 -- answer says of a sheet.
 -- Assumes nothing.
-use Rattle.std.specs.Prelude.{◌≡◌, refl, List, ℕ}
+use Rattle.std.specs.Prelude.{◌≡◌, refl, ℕ}
 use Rattle.std.proofs.Common.{ap, ◌∙◌, arith}
-use Rattle.refusals.specs.Verdicts.{Verdict, clear, refuse, first_of}
+use Rattle.refusals.specs.Verdicts.{Verdict, clear, refuse}
 use Rattle.refusals.specs.Answers.{answer_of}
 use Rattle.refusals.specs.declared.answer.Refusal.{Refusal}
-use Rattle.refusals.specs.Orders.{parts-clear}
-use Rattle.sheet.specs.Orders.{shape_order, rebuild_order, read_order, Shaped}
-use Rattle.sheet.specs.Answers.{issue_of, issued_of, issued_report, summary_in, read_answer}
-use Rattle.sheet.specs.Clear.{clear-shaped}
+use Rattle.sheet.specs.Answers.{issue_of, issued_of, issued_report}
 use Rattle.sheet.specs.declared.answer.Summary.{Summary}
 use Rattle.sheet.specs.declared.answer.Issued.{Issued}
 use Rattle.sheet.specs.declared.answer.Issued.TheVariants as issued
@@ -33,9 +30,3 @@ pub refused_verdict : (v : Verdict) (s : Summary) {r : Refusal} → issued_of v 
 unfolding answer_of
 refused_verdict clear s e = let z : ◌≡◌ {A = ℕ} 0 1 = cc in absurd (omega arith)
 refused_verdict (refuse k p) s e = cc
-
--- a sheet that reading accepts has a good shape
-pub done-shaped : (sheet : List ℕ) (s : Summary) → read_answer sheet ≡ issued.Done s → Shaped sheet
-unfolding read_answer
-done-shaped sheet s e =
-    clear-shaped sheet (parts-clear (shape_order sheet) (rebuild_order sheet) (done-clear (first_of (read_order sheet)) (summary_in sheet) s e)).0

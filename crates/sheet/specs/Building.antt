@@ -11,7 +11,7 @@ use Rattle.refusals.specs.Answered.{answer-refused, left-refused}
 use Rattle.refusals.specs.declared.answer.Refusal.{Refusal}
 use Rattle.field.specs.Accepted.{Operand}
 use Rattle.field.specs.Refusals.{operand_order, field_order}
-use Rattle.field.specs.Orders.{operand_judged}
+use Rattle.field.proofs.Orders.{operand_judged}
 use Rattle.sheet.specs.Record.{record_size, sheet_bytes}
 use Rattle.sheet.specs.Orders.{normal_rule, room_rule, room_order, build_order}
 use Rattle.sheet.specs.Answers.{issued_of, issued_report, summary_of, build_answer, build_report, at_front, built_buffer}

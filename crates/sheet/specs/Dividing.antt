@@ -1,13 +1,11 @@
 -- Laws of the orders of dividing: when 13 is given; a number to invert is judged as if it were divided by itself; what the orders leave of
 -- the sheet and of the numbers where no condition applies.
 -- Assumes nothing.
-use Rattle.std.specs.Prelude.{◌≡◌, List, [], ◌∷◌, ℕ, ◌^◌, ◌<◌}
-use Rattle.std.proofs.Common.{sym, ap, ◌∙◌, eq-eqb, ne_eqb}
-use Rattle.refusals.specs.Verdicts.{Verdict, clear, refuse, first_of, and_then}
-use Rattle.refusals.specs.Orders.{first-applies, first_passes, first-none, first-append, parts-clear}
-use Rattle.sheet.specs.Record.{record_count}
-use Rattle.sheet.specs.Orders.{Shaped, zero_rule, value_order, inverse_order, quotient_order}
-use Rattle.sheet.specs.Converting.{value_twice, values_judged}
+use Rattle.std.specs.Prelude.{◌≡◌, [], ◌∷◌, ℕ}
+use Rattle.std.proofs.Common.{◌∙◌, eq-eqb, ne_eqb}
+use Rattle.refusals.specs.Verdicts.{clear, refuse, first_of}
+use Rattle.refusals.specs.Orders.{first-applies, first_passes, first-none}
+use Rattle.sheet.specs.Orders.{zero_rule}
 
 -- ---- 13
 
@@ -16,15 +14,3 @@ zero-applies v e = first-applies (zero_rule v) [] (eq-eqb v 0 e)
 
 pub zero-passes : (v : ℕ) → (v ≡ 0 → ⊥) → first_of (zero_rule v ∷ []) ≡ clear
 zero-passes v e = first_passes (zero_rule v) [] (ne_eqb v 0 e) ∙ first-none
-
--- ---- the orders
-
-module _ (sheet : List ℕ) where
-  pub inverse_twice : (a : ℕ) → first_of (quotient_order sheet a a) ≡ first_of (inverse_order sheet a)
-  inverse_twice a =
-      first-append (value_order sheet (a ∷ a ∷ [])) (zero_rule a ∷ [])
-      ∙ ap (λ (v : Verdict). and_then v (first_of (zero_rule a ∷ []))) (value_twice sheet a)
-      ∙ sym (first-append (value_order sheet (a ∷ [])) (zero_rule a ∷ []))
-
-  pub division_judged : (b a : ℕ) → first_of (quotient_order sheet b a) ≡ clear → Shaped sheet × (b < 2 ^ record_count sheet) × (a < 2 ^ record_count sheet)
-  division_judged b a e = values_judged sheet b a (parts-clear (value_order sheet (b ∷ a ∷ [])) (zero_rule a ∷ []) e).0

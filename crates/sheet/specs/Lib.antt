@@ -20,8 +20,5 @@ pub mod Rebuilding
 pub mod Columns
 pub mod Written
 pub mod Sheets
-pub mod Issuing
-pub mod Held
 pub mod Through
-pub mod Issued
 pub mod Divided

@@ -3,19 +3,15 @@
 --   first_large_lem n i values   the index of the first value that is 2 ^ n or more, counted from i; past the last where there is none
 --
 -- Assumes nothing.
-use Rattle.std.specs.Prelude.{◌≡◌, refl, Bool, true, false, not, cond, List, [], ◌∷◌, ◌++◌, map, ℕ, zero, suc, ◌+◌, ◌≤◌, ◌<◌, ltb, eqb, length, get_or, set, take, drop}
-use Rattle.std.proofs.Common.{sym, ap, ap₂, ◌∙◌, append-nil, le_of_suc-le-suc, not-suc-le-zero, add-one, arith, drop_of_length-le, length-append, length-drop, drop-cons, take-suc, take_all, lt-ltb, le-ltb, eq-eqb, ne_eqb, ltb-false, eqb-true}
+use Rattle.std.specs.Prelude.{◌≡◌, refl, Bool, true, false, cond, List, [], ◌∷◌, ◌++◌, map, ℕ, zero, suc, ◌+◌, ◌≤◌, ◌<◌, length, get_or, set, take, drop}
+use Rattle.std.proofs.Common.{sym, ap, ap₂, ◌∙◌, append-nil, le_of_suc-le-suc, not-suc-le-zero, add-one, arith, drop_of_length-le, length-append, length-drop, drop-cons, take-suc, take_all, lt-ltb, le-ltb, eq-eqb, ne_eqb}
 use Rattle.std.proofs.lemmas.List.{set_at, get_or_at}
 use Rattle.std.proofs.Math.Seq.{append_snoc}
-use Rattle.std.proofs.lemmas.Bool.{not-false}
-use Rattle.gf2.specs.Truth.{or_false}
 use Rattle.refusals.specs.Verdicts.{clear, refuse, first_of}
-use Rattle.refusals.specs.Orders.{first-applies, first_passes, first-none, first-clear, parts-clear}
+use Rattle.refusals.specs.Orders.{first-applies, first_passes, first-none, first-clear}
 use Rattle.field.specs.Refusals.{too_large_lem}
 use Rattle.field.specs.Orders.{not_too_large}
-use Rattle.sheet.specs.Record.{record_count}
-use Rattle.sheet.specs.Orders.{list_limit, list_rule, value_rules, shape_order, list_order, polynomial_list_order, Shaped, Fits, Small}
-use Rattle.sheet.specs.Clear.{clear-shaped}
+use Rattle.sheet.specs.Orders.{list_limit, list_rule, value_rules, Small}
 
 unfoldable pub first_large_lem : (n i : ℕ) → List ℕ → ℕ
 first_large_lem n i [] = i
@@ -77,22 +73,6 @@ coordinates-small n i [] e j l = absurd (not-suc-le-zero l)
 coordinates-small n i (v ∷ vs) e zero l = not_too_large n v (first-clear (record { number = 4; place = i; applies = too_large_lem n v }) _ e).0
 coordinates-small n i (v ∷ vs) e (suc j) l =
     coordinates-small n (i + 1) vs (first-clear (record { number = 4; place = i; applies = too_large_lem n v }) _ e).1 j (le_of_suc-le-suc l)
-
-pub list_judged : (sheet : List ℕ) (values room : ℕ) → first_of (list_order sheet values room) ≡ clear → Shaped sheet × Fits values room
-list_judged sheet values room e =
-    let s = parts-clear (shape_order sheet) (list_rule values room ∷ []) e in
-    let l = first-clear (list_rule values room) [] s.1 in
-    let d = or_false (not (eqb values room)) (ltb list_limit values) l.0 in (
-      clear-shaped sheet s.0,
-      record { lengths = eqb-true values room (not-false (eqb values room) d.0); most = ltb-false list_limit values d.1 },
-    )
-
-pub polynomials_judged : (sheet from : List ℕ) (room : ℕ) → first_of (polynomial_list_order sheet from room) ≡ clear
-    → Shaped sheet × Fits (length from) room × Small (record_count sheet) from
-polynomials_judged sheet from room e =
-    let s = parts-clear (list_order sheet (length from) room) (value_rules (record_count sheet) 0 from) e in
-    let l = list_judged sheet (length from) room s.0 in
-    (l.0, l.1, coordinates-small (record_count sheet) 0 from s.1)
 
 -- ---- filling the list
 

@@ -1,8 +1,8 @@
 -- Laws of the shape conditions: what each test of the code gives, the walk over the records, and what a clear shape leaves.
 -- Assumes nothing.
-use Rattle.std.specs.Prelude.{◌≡◌, true, false, not, ◌||◌, List, ℕ, suc, ◌+◌, ◌-◌, ◌/◌, ◌%◌, ◌≤◌, ◌<◌, ltb, eqb, length}
+use Rattle.std.specs.Prelude.{◌≡◌, true, false, not, ◌||◌, List, ℕ, ◌-◌, ◌/◌, ◌%◌, ◌≤◌, ◌<◌, ltb, eqb, length}
 use Rattle.std.proofs.Math.Path.{sym}
-use Rattle.std.proofs.Common.{ap, arith}
+use Rattle.std.proofs.Common.{arith}
 use borrow.Author.Tests.{lt-ltb, le-ltb, eq-eqb, ne_eqb, ltb-false, eqb-true, not-false}
 use Rattle.gf2.specs.Limit.{limit}
 use Rattle.refusals.specs.Verdicts.{clear, refuse, first_of}
@@ -78,22 +78,6 @@ module _ (sheet : List ℕ) (i n : ℕ) (en : n ≡ record_count sheet) where
       table-decides r = rw (← en, p, q, r)
 
 -- ---- the walk over the records
-
-module _ (sheet : List ℕ) (i n : ℕ) (h : i < n) where
-  next_rules : record_rules sheet i (n - i) ≡ record_rules sheet i (suc (n - (i + 1)))
-  next_rules = let e : n - i ≡ suc (n - (i + 1)) = omega arith in ap (record_rules sheet i) e
-
-  pub walk-misplaced : misplaced sheet i ≡ true → first_of (record_rules sheet i (n - i)) ≡ refuse 8 i
-  unfolding record_rules first_of
-  walk-misplaced e = rw (next_rules, e)
-
-  pub walk-oversized : misplaced sheet i ≡ false → oversized sheet i ≡ true → first_of (record_rules sheet i (n - i)) ≡ refuse 9 i
-  unfolding record_rules first_of
-  walk-oversized e p = rw (next_rules, e, p)
-
-  pub walk-on : misplaced sheet i ≡ false → oversized sheet i ≡ false → first_of (record_rules sheet (i + 1) (n - (i + 1))) ≡ first_of (record_rules sheet i (n - i))
-  unfolding record_rules first_of
-  walk-on e p = rw (next_rules, e, p)
 
 pub walk-done : (sheet : List ℕ) (i n : ℕ) → n ≤ i → first_of (record_rules sheet i (n - i)) ≡ clear
 unfolding record_rules first_of

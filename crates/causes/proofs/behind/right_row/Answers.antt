@@ -1,7 +1,7 @@
 -- `causes::behind::right_row` meets its contract: the rows of the basis are those of the sheet.
 -- Assumes nothing.
 use native.Mathlib.Omega.{arith}
-use Rattle.sheet.specs.Issuing.{based-degree, based-most}
+use Rattle.sheet.proofs.Issuing.{based-degree, based-most}
 use Rattle.causes.specs.Cases.{right-row}
 use Rattle.causes.proofs.behind.right_row.Goals as goal
 

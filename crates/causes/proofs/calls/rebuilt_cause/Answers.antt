@@ -6,7 +6,7 @@ use Prim.Native.Nat.{ℕ}
 use native.Mathlib.Omega.{arith}
 use Rattle.sheet.specs.Record.{record_count, conjugate_in, sheet_bytes}
 use Rattle.sheet.specs.Orders.{rebuilt_from}
-use Rattle.sheet.specs.Issuing.{shaped-based}
+use Rattle.sheet.proofs.Issuing.{shaped-based}
 use Rattle.sheet.specs.Rebuilding.{rebuilt_element, rebuilt_sheet}
 use Rattle.sheet.specs.declared.loading.Row.{Row}
 use Rattle.causes.specs.Causes.{row_of, difference_of, difference_in, basis_cause}

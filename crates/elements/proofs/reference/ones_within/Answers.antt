@@ -3,7 +3,7 @@ use lib.Count.{ones-le}
 use Rattle.gf2.specs.Poly.{mul_mod}
 use Rattle.field.specs.Frobenius.{squared_start, squared-lt, squared_turn}
 use Rattle.field.specs.Ring.{mul_mod-lt}
-use Rattle.normal.specs.Reference.{turn_degree}
+use Rattle.normal.proofs.Reference.{turn_degree}
 use Rattle.elements.specs.Reference.{through}
 use Rattle.elements.specs.Ones.{ones_none, ones_turn, ones-whole, ones_bounded}
 use Rattle.elements.specs.Multiples.{multiples_of}

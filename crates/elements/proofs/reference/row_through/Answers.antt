@@ -4,7 +4,7 @@ use Rattle.std.proofs.Common.{◌≡◌, ℕ, ◌+◌, ◌^◌, ◌<◌, ◌≤�
 use lib.Bits.{bit_xor}
 use Rattle.gf2.specs.Poly.{mul_mod}
 use Rattle.field.specs.Ring.{mul_mod-lt, mul_mod_comm}
-use Rattle.normal.specs.Reference.{turn_degree}
+use Rattle.normal.proofs.Reference.{turn_degree}
 use Rattle.elements.specs.Reference.{through}
 use Rattle.elements.specs.Through.{through-lt}
 use Rattle.elements.specs.Upper.{RowTables, wide-coordinates}

@@ -3,7 +3,7 @@
 use Rattle.std.proofs.Common.{◌≡◌, ℕ, ◌+◌, ◌^◌, ◌<◌, sym, ap, ◌∙◌, arith}
 use Rattle.gf2.specs.Poly.{mul_mod}
 use Rattle.field.specs.Orders.{not_too_large}
-use Rattle.normal.specs.Reference.{turn_degree}
+use Rattle.normal.proofs.Reference.{turn_degree}
 use Rattle.elements.proofs.units.unit_of.Goals.{After-multiply-product, Else-too_large}
 use Rattle.elements.proofs.units.unit_of.Goals as goal
 

@@ -1,7 +1,7 @@
 -- `elements::windows::turned_product` meets its contract: modulo t ^ n + 1 the two halves of the product are added.
 -- Assumes nothing.
 use Rattle.std.proofs.Common.{◌+◌, ◌^◌}
-use Rattle.normal.specs.Reference.{turn_degree}
+use Rattle.normal.proofs.Reference.{turn_degree}
 use Rattle.elements.specs.Windows.{wide-turned}
 use Rattle.elements.proofs.windows.turned_product.Goals as goal
 

@@ -7,7 +7,8 @@ use native.Mathlib.Omega.{arith}
 use Rattle.refusals.specs.Answers.{checked_of}
 use Rattle.refusals.specs.Orders.{first-applies}
 use Rattle.field.specs.Refusals.{degree_rule}
-use Rattle.field.specs.Orders.{in_range, operand-inside}
+use Rattle.field.specs.Orders.{in_range}
+use Rattle.field.proofs.Orders.{operand-inside}
 use Rattle.field.proofs.judging.operands_verdict.Goals as goal
 
 pub returns-then-degree_outside : goal.returns-then-degree_outside

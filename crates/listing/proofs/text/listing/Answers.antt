@@ -2,7 +2,7 @@
 -- Assumes nothing.
 use mathlib.Core.Path.{sym, ◌∙◌}
 use native.Mathlib.Omega.{arith}
-use Rattle.sheet.specs.Answered.{done-shaped}
+use Rattle.sheet.proofs.Answered.{done-shaped}
 use Rattle.listing.specs.Putting.{put-length}
 use Rattle.listing.specs.Listing.{rows_fit, refused_fits, listed-done, listed-refused}
 use Rattle.listing.proofs.text.listing.Goals as goal

@@ -4,7 +4,8 @@ use native.Mathlib.Omega.{arith}
 use lib.ListN.{drop}
 use Rattle.normal.specs.TableProduct.{entry}
 use Rattle.matrices.specs.Matrices.{line_bytes}
-use Rattle.matrices.specs.Comparing.{agrees_start, line_missing, line_other, line-next, line-end}
+use Rattle.matrices.specs.Comparing.{agrees_start}
+use Rattle.matrices.proofs.Comparing.{line_missing, line_other, line-next, line-end}
 use Rattle.matrices.proofs.reading.common_line.Goals as goal
 
 pub returns-then-text-at : goal.returns-then-text-at

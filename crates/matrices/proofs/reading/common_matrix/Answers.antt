@@ -5,7 +5,7 @@ use native.Mathlib.Omega.{arith}
 use Rattle.gf2.specs.Limit.{limit}
 use Rattle.matrices.specs.Blocks.{lines-size-most}
 use Rattle.matrices.specs.Turned.{turned}
-use Rattle.matrices.specs.Comparing.{matrix_start, matrix_stop, matrix_next, matrix_end, matrix_most}
+use Rattle.matrices.proofs.Comparing.{matrix_start, matrix_stop, matrix_next, matrix_end, matrix_most}
 use Rattle.matrices.proofs.reading.common_matrix.Goals.{At-loop-i}
 use Rattle.matrices.proofs.reading.common_matrix.Goals as goal
 

@@ -7,7 +7,7 @@ use Rattle.matrices.specs.Matrices.{matrix_bytes, matrix_size}
 use Rattle.matrices.specs.Orders.{common_lines}
 use Rattle.matrices.specs.Blocks.{lines-size-most, text_size-most}
 use Rattle.matrices.specs.Turned.{turned}
-use Rattle.matrices.specs.Comparing.{text_start, text_stop, text_next, text_end}
+use Rattle.matrices.proofs.Comparing.{text_start, text_stop, text_next, text_end}
 use Rattle.matrices.proofs.reading.common_text.Goals.{After-common_matrix-lines, At-loop-k}
 use Rattle.matrices.proofs.reading.common_text.Goals as goal
 

@@ -11,7 +11,7 @@ use Rattle.matrices.specs.Matrices.{text_bytes, line_count}
 use Rattle.matrices.specs.Orders.{common_lines}
 use Rattle.matrices.specs.Blocks.{lines-size-most}
 use Rattle.matrices.specs.Turned.{turned}
-use Rattle.matrices.specs.Matching.{match_fewer, match_other-length, match_whole}
+use Rattle.matrices.proofs.Matching.{match_fewer, match_other-length, match_whole}
 use Rattle.matrices.proofs.reading.match_verdict.Goals as goal
 
 pub overflow_mul-n : goal.overflow_mul-n

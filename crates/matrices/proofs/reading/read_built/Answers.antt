@@ -11,7 +11,7 @@ use Rattle.sheet.specs.Basis.{normal-refused, normal-rows, summary_table}
 use Rattle.sheet.specs.declared.answer.Issued.TheVariants as issued
 use Rattle.matrices.specs.Matrices.{matrices_text}
 use Rattle.matrices.specs.Orders.{match_rule, match_order}
-use Rattle.matrices.specs.Calls.{built_verdict}
+use Rattle.matrices.proofs.Calls.{built_verdict}
 use Rattle.matrices.proofs.reading.read_built.Goals as goal
 
 pub build_basis-built-requires : goal.build_basis-built-requires

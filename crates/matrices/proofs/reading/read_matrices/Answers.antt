@@ -5,7 +5,7 @@ use mathlib.Core.List.{◌∷◌, ◌++◌}
 use Rattle.gf2.specs.Poly.{degree}
 use Rattle.refusals.specs.Verdicts.{first_of}
 use Rattle.refusals.specs.Answered.{judged_clear, part-refuses, part-passes}
-use Rattle.field.specs.Orders.{operand_judged}
+use Rattle.field.proofs.Orders.{operand_judged}
 use Rattle.field.specs.Refusals.{operand_order, field_order}
 use Rattle.matrices.specs.Orders.{match_order}
 use Rattle.matrices.specs.Calls.{text_refused, text_rest}

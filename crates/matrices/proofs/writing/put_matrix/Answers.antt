@@ -7,7 +7,7 @@ use Rattle.gf2.specs.Limit.{limit}
 use Rattle.matrices.specs.Matrices.{line_end}
 use Rattle.matrices.specs.Blocks.{lines-size-most, next_place}
 use Rattle.matrices.specs.Turned.{turned}
-use Rattle.matrices.specs.Putting.{lines_none, lines-kept, lines_next, matrix_done}
+use Rattle.matrices.proofs.Putting.{lines_none, lines-kept, lines_next, matrix_done}
 use Rattle.matrices.proofs.writing.put_matrix.Goals.{At-loop-i}
 use Rattle.matrices.proofs.writing.put_matrix.Goals as goal
 

@@ -8,7 +8,7 @@ use Rattle.sheet.specs.Bytes.{pasted}
 use Rattle.matrices.specs.Matrices.{matrix_bytes, text_bytes, matrix_size, text_size}
 use Rattle.matrices.specs.Blocks.{text_size-most, next_place}
 use Rattle.matrices.specs.Turned.{turned}
-use Rattle.matrices.specs.Putting.{matrices-none, matrices-kept, matrices-next}
+use Rattle.matrices.proofs.Putting.{matrices-none, matrices-kept, matrices-next}
 use Rattle.matrices.proofs.writing.put_text.Goals.{At-loop-k, Start}
 use Rattle.matrices.proofs.writing.put_text.Goals as goal
 

@@ -4,9 +4,9 @@ use Prim.Native.Nat.{◌≤◌}
 use native.Mathlib.Omega.{arith}
 use lib.ListN.{length}
 use Rattle.sheet.specs.Record.{record_count}
-use Rattle.sheet.specs.Answered.{done-shaped}
+use Rattle.sheet.proofs.Answered.{done-shaped}
 use Rattle.matrices.specs.Matrices.{text_size}
-use Rattle.matrices.specs.Calls.{write_short, write_refused, write_done}
+use Rattle.matrices.proofs.Calls.{write_short, write_refused, write_done}
 use Rattle.matrices.proofs.writing.write_accepted.Goals as goal
 
 pub text_size-requires : goal.text_size-requires

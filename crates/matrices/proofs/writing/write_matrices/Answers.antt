@@ -2,8 +2,8 @@
 -- Assumes nothing.
 use mathlib.Core.Path.{sym, ◌∙◌}
 use lib.ListN.{length}
-use Rattle.matrices.specs.Judging.{write_refused_as_read}
-use Rattle.matrices.specs.Calls.{write_refused}
+use Rattle.matrices.proofs.Judging.{write_refused_as_read}
+use Rattle.matrices.proofs.Calls.{write_refused}
 use Rattle.matrices.proofs.writing.write_matrices.Goals as goal
 
 pub write_accepted-requires : goal.write_accepted-requires

@@ -7,9 +7,9 @@ use borrow.Author.Tests.{not-true, not-false}
 use Rattle.gf2.specs.Poly.{Element}
 use Rattle.rows.specs.Rows.{Matrix}
 use Rattle.normal.specs.Normal.{conjugates, padded}
-use Rattle.normal.specs.Coordinates.{conjugates_matrix}
+use Rattle.normal.proofs.Coordinates.{conjugates_matrix}
 use Rattle.normal.specs.Filling.{padded_matrix}
-use Rattle.normal.specs.Building.{built_dependent, built_normal}
+use Rattle.normal.proofs.Building.{built_dependent, built_normal}
 use Rattle.normal.proofs.basis.build_basis.Goals as goal
 
 matrix : (f n a : ℕ) (rows : List ℕ) → Element f n a → rows ≡ padded (conjugates f n a) → Matrix rows n

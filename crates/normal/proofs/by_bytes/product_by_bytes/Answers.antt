@@ -6,8 +6,9 @@ use lib.Bits.{bit_xor}
 use Rattle.gf2.specs.Numbers.{mod-two-lt}
 use Rattle.rows.specs.ByteSums.{bytes, picked_bytes}
 use Rattle.normal.specs.TableProduct.{rotate, table_product}
-use Rattle.normal.specs.Rotation.{rotate-lt}
-use Rattle.normal.specs.Turns.{Taken, taken_none, turned_lt, product_lt, taken_next, taken-all}
+use Rattle.normal.proofs.Rotation.{rotate-lt}
+use Rattle.normal.specs.Turns.{Taken, taken_none}
+use Rattle.normal.proofs.Turns.{turned_lt, product_lt, taken_next, taken-all}
 use Rattle.normal.specs.Summed.{summed_rows, Summed, summed_rows-length}
 use Rattle.normal.proofs.by_bytes.product_by_bytes.Goals as goal
 

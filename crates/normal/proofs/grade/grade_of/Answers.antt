@@ -2,7 +2,7 @@
 -- Assumes nothing.
 use mathlib.Core.Path.{sym, ◌∙◌}
 use native.Mathlib.Omega.{arith}
-use Rattle.normal.specs.Graded.{grade-none, grade_optimal}
+use Rattle.normal.proofs.Graded.{grade-none, grade_optimal}
 use Rattle.normal.proofs.grade.grade_of.Goals as goal
 
 pub overflow_mul-n : goal.overflow_mul-n

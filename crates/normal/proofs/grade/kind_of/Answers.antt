@@ -1,7 +1,7 @@
 -- `normal::grade::kind_of` meets its contract: its tests are the definition's.
 -- Assumes nothing.
 use mathlib.Core.Path.{sym, ◌∙◌}
-use Rattle.normal.specs.Graded.{kind_both, kind_first, kind_second}
+use Rattle.normal.proofs.Graded.{kind_both, kind_first, kind_second}
 use Rattle.normal.proofs.grade.kind_of.Goals as goal
 
 pub returns-then-n-eq2 : goal.returns-then-n-eq2

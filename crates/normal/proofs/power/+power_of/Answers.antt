@@ -6,11 +6,12 @@ use Prim.Native.Nat.{ℕ, ◌/◌, ◌%◌, ◌^◌, ◌<◌}
 use native.Mathlib.Omega.{arith}
 use Rattle.gf2.specs.Numbers.{mod-two-lt}
 use Rattle.normal.specs.TableProduct.{rotate, rotated_by, table_product}
-use Rattle.normal.specs.Turns.{rotated_by-lt}
-use Rattle.normal.specs.Rotation.{rotate-lt}
-use Rattle.normal.specs.ProductBits.{table_product-lt}
+use Rattle.normal.proofs.Turns.{rotated_by-lt}
+use Rattle.normal.proofs.Rotation.{rotate-lt}
+use Rattle.normal.proofs.ProductBits.{table_product-lt}
 use Rattle.normal.specs.Powers.{power_of}
-use Rattle.normal.specs.Recursion.{power-one, power-lt, power_half_even, power_half_odd}
+use Rattle.normal.specs.Recursion.{power-one, power_half_even, power_half_odd}
+use Rattle.normal.proofs.Recursion.{power-lt}
 use Rattle.normal.specs.Summed.{summed_rows, Summed, summed_rows-length}
 use Rattle.normal.proofs.power.+power_of.Goals as goal
 

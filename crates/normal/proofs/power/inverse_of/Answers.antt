@@ -4,7 +4,7 @@ use Prim.Native.Nat.{ℕ, ◌-◌}
 use native.Mathlib.Omega.{arith}
 use Rattle.normal.specs.TableProduct.{rotate}
 use Rattle.normal.specs.Powers.{inverse_of}
-use Rattle.normal.specs.Recursion.{power-lt}
+use Rattle.normal.proofs.Recursion.{power-lt}
 use Rattle.normal.specs.Summed.{summed_rows, summed_rows-length}
 use Rattle.normal.proofs.power.inverse_of.Goals as goal
 

@@ -3,7 +3,7 @@ use Prim.Native.Nat.{ℕ, ◌+◌}
 use native.Mathlib.Numerals.{add-one}
 use native.Mathlib.Omega.{arith}
 use Rattle.normal.specs.TableProduct.{rotate, rotated_by}
-use Rattle.normal.specs.Turns.{rotated_by-lt}
+use Rattle.normal.proofs.Turns.{rotated_by-lt}
 use Rattle.normal.proofs.power.rotated_by.Goals as goal
 
 start : (n v : ℕ) → v ≡ rotated_by n 0 v

@@ -12,8 +12,9 @@ use Rattle.gf2.specs.Numbers.{mod-two-lt}
 use Rattle.rows.specs.Rows.{comb}
 use Rattle.rows.specs.Sums.{comb-take}
 use Rattle.normal.specs.TableProduct.{rotate, table_product, Factors}
-use Rattle.normal.specs.Rotation.{rotate-lt}
-use Rattle.normal.specs.Turns.{Taken, taken_none, turned_lt, product_lt, taken_next, taken-all}
+use Rattle.normal.proofs.Rotation.{rotate-lt}
+use Rattle.normal.specs.Turns.{Taken, taken_none}
+use Rattle.normal.proofs.Turns.{turned_lt, product_lt, taken_next, taken-all}
 use Rattle.normal.proofs.product.product_of.Goals.{Start}
 use Rattle.normal.proofs.product.product_of.Goals as goal
 

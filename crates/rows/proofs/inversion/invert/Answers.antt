@@ -11,8 +11,9 @@ use Rattle.gf2.specs.Limit.{limit}
 use Rattle.rows.specs.Bits.{◌∩◌}
 use Rattle.rows.specs.Sharing.{∩-lt, width-le}
 use Rattle.rows.specs.Added.{length-placed}
-use Rattle.rows.specs.Insertion.{Reduced, pivot_set, pivot_lt, insertion_start, row_reduced, row_dependent}
-use Rattle.rows.specs.Placing.{insertion_turn, insertion_end}
+use Rattle.rows.specs.Insertion.{Reduced, pivot_set, pivot_lt, insertion_start}
+use Rattle.rows.proofs.Insertion.{row_reduced, row_dependent}
+use Rattle.rows.proofs.Placing.{insertion_turn, insertion_end}
 use Rattle.rows.proofs.inversion.invert.Goals.{After-sum-in-loop-k, After-width, At-loop-k, Else-rest-eq0}
 use Rattle.rows.proofs.inversion.invert.Goals as goal
 

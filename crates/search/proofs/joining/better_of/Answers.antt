@@ -1,7 +1,7 @@
 -- `search::joining::better_of` meets its contract: its test is the definition's.
 -- Assumes nothing.
 use mathlib.Core.Path.{sym, ◌∙◌}
-use Rattle.search.specs.Joining.{better-new, better-kept}
+use Rattle.search.proofs.JoiningLaws.{better-new, better-kept}
 use Rattle.search.proofs.joining.better_of.Goals as goal
 
 pub returns-then-comes_before : goal.returns-then-comes_before

@@ -1,7 +1,8 @@
 -- `search::joining::join_leader` meets its contract, by the cases of what is held.
 -- Assumes nothing.
 use mathlib.Core.Path.{◌∙◌}
-use Rattle.search.specs.Joining.{join_refused, join_first, join_better, found_once, counts_fit}
+use Rattle.search.specs.Joining.{join_refused, join_first, join_better, counts_fit}
+use Rattle.search.proofs.JoiningLaws.{found_once}
 use Rattle.search.proofs.joining.join_leader.Goals as goal
 
 pub better_of-requires : goal.better_of-requires

@@ -2,7 +2,7 @@
 -- Assumes nothing.
 use mathlib.Core.Path.{sym, ap, ◌∙◌}
 use Rattle.refusals.specs.Answers.{checked_of}
-use Rattle.search.specs.Orders.{range_empty, range_past}
+use Rattle.search.proofs.Orders.{range_empty, range_past}
 use Rattle.search.proofs.searching.range_verdict.Goals as goal
 
 pub returns-then-last-first : goal.returns-then-last-first

@@ -9,7 +9,8 @@ use Rattle.refusals.specs.declared.answer.Refusal.{Refusal}
 use Rattle.search.specs.Search.{ranged, count_of}
 use Rattle.search.specs.Answers.{search_order, search_answer, search_report}
 use Rattle.search.specs.Joined.{nothing-joined}
-use Rattle.search.specs.Orders.{search-promised, clear_range}
+use Rattle.search.specs.Orders.{search-promised}
+use Rattle.search.proofs.Orders.{clear_range}
 use Rattle.search.specs.declared.answer.Search.TheVariants.{Refused}
 use Rattle.search.proofs.searching.search.Goals as goal
 

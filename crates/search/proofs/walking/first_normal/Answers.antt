@@ -7,7 +7,7 @@ use Rattle.normal.specs.Normal.{normal}
 use Rattle.elements.specs.Built.{built_normal}
 use Rattle.search.specs.Search.{leader}
 use Rattle.search.specs.Walks.{normal-leader, not_normal}
-use Rattle.search.specs.Begun.{first_turn, first_skip}
+use Rattle.search.proofs.Begun.{first_turn, first_skip}
 use Rattle.search.proofs.walking.first_normal.Goals.{In-loop-a}
 use Rattle.search.proofs.walking.first_normal.Goals as goal
 

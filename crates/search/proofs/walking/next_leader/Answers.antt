@@ -1,7 +1,8 @@
 use mathlib.Core.Path.{sym, ◌∙◌}
 use native.Mathlib.Omega.{arith}
 use lib.Pow.{pow_mono}
-use Rattle.search.specs.Begun.{trace-leader-leads, not_trace-leader, walked_start, first_turn}
+use Rattle.search.specs.Begun.{trace-leader-leads, not_trace-leader}
+use Rattle.search.proofs.Begun.{walked_start, first_turn}
 use Rattle.search.proofs.walking.next_leader.Goals as goal
 
 pub loop-a-init : goal.loop-a-init

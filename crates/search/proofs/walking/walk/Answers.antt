@@ -5,7 +5,7 @@ use borrow.Author.Rules.{rules}
 use Rattle.elements.specs.Traces.{ModulusOf}
 use Rattle.search.specs.Search.{normal_leader}
 use Rattle.search.specs.Walks.{leader_is_normal}
-use Rattle.search.specs.Begun.{begun_nothing, begun_found}
+use Rattle.search.proofs.Begun.{begun_nothing, begun_found}
 use Rattle.search.proofs.walking.walk.Goals.{After-trace_mask-mask}
 use Rattle.search.proofs.walking.walk.Goals as goal
 

@@ -2,7 +2,8 @@ use Prim.Native.Nat.{◌+◌, ◌^◌, ◌<◌}
 use native.Mathlib.Omega.{arith}
 use lib.Pow.{pow_mono}
 use Rattle.search.specs.Search.{leader}
-use Rattle.search.specs.Begun.{next_skip, next_start, next_turn, next-count, next-done}
+use Rattle.search.specs.Begun.{next-done}
+use Rattle.search.proofs.Begun.{next_skip, next_start, next_turn, next-count}
 use Rattle.search.proofs.walking.walk_on.Goals.{In-loop-y}
 use Rattle.search.proofs.walking.walk_on.Goals as goal
 

@@ -9,7 +9,7 @@ use Rattle.refusals.specs.Verdicts.{first_of}
 use Rattle.refusals.specs.Answers.{checked_of}
 use Rattle.refusals.specs.Answered.{judged_clear, then_refused, then_rest}
 use Rattle.field.specs.Refusals.{operand_order, field_order}
-use Rattle.field.specs.Orders.{operand_judged}
+use Rattle.field.proofs.Orders.{operand_judged}
 use Rattle.sheet.specs.Orders.{room_rule}
 use Rattle.sheet.proofs.building.build_verdict.Goals as goal
 

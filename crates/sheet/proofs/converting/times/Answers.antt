@@ -6,7 +6,7 @@ use Rattle.refusals.specs.Answered.{judged_clear, judged_refused, judged_done, v
 use Rattle.refusals.specs.declared.answer.Value.TheVariants as value
 use Rattle.sheet.specs.Orders.{times_order}
 use Rattle.sheet.specs.Answers.{times_answer, times_report}
-use Rattle.sheet.specs.Converting.{values_judged}
+use Rattle.sheet.proofs.ConvertingLaws.{values_judged}
 use Rattle.sheet.proofs.converting.times.Goals as goal
 
 pub multiplied-requires : goal.multiplied-requires

@@ -6,7 +6,7 @@ use Rattle.refusals.specs.Answered.{judged_clear, judged_refused, judged_done, v
 use Rattle.refusals.specs.declared.answer.Value.TheVariants as value
 use Rattle.sheet.specs.Orders.{normal_order}
 use Rattle.sheet.specs.Answers.{normal_answer, normal_report}
-use Rattle.sheet.specs.Clear.{clear-shaped}
+use Rattle.sheet.proofs.Clear.{clear-shaped}
 use Rattle.sheet.proofs.converting.to_normal.Goals as goal
 
 pub coordinates_in-requires : goal.coordinates_in-requires

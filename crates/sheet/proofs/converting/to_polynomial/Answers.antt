@@ -7,7 +7,7 @@ use Rattle.refusals.specs.Answered.{judged_clear, judged_refused, judged_done, v
 use Rattle.refusals.specs.declared.answer.Value.TheVariants as value
 use Rattle.sheet.specs.Orders.{polynomial_order}
 use Rattle.sheet.specs.Answers.{to_polynomial, polynomial_answer, polynomial_report}
-use Rattle.sheet.specs.Converting.{value_judged}
+use Rattle.sheet.proofs.ConvertingLaws.{value_judged}
 use Rattle.sheet.proofs.converting.to_polynomial.Goals as goal
 
 pub converted-requires : goal.converted-requires

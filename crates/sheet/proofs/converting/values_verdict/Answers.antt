@@ -8,7 +8,7 @@ use Rattle.refusals.specs.Answered.{judged_clear, then_refused, then_rest}
 use Rattle.field.specs.Refusals.{element_order}
 use Rattle.sheet.specs.Record.{record_count}
 use Rattle.sheet.specs.Orders.{shape_order}
-use Rattle.sheet.specs.Clear.{clear-shaped}
+use Rattle.sheet.proofs.Clear.{clear-shaped}
 use Rattle.sheet.proofs.converting.values_verdict.Goals as goal
 
 pub overflow_cast-sheet : goal.overflow_cast-sheet

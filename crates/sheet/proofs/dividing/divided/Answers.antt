@@ -7,7 +7,7 @@ use native.Mathlib.Omega.{arith}
 use borrow.Author.Rules.{rules}
 use Rattle.normal.specs.Powers.{quotient_of}
 use Rattle.normal.specs.TableProduct.{table_product}
-use Rattle.normal.specs.Recursion.{inverse-lt}
+use Rattle.normal.proofs.Recursion.{inverse-lt}
 use Rattle.normal.specs.Summed.{summed_rows, summed_rows-length}
 use Rattle.sheet.specs.Record.{record_count}
 use Rattle.sheet.specs.Answers.{quotient_through}

@@ -10,7 +10,7 @@ use Rattle.refusals.specs.declared.answer.Checked.{Checked}
 use Rattle.refusals.specs.declared.answer.Value.TheVariants as value
 use Rattle.sheet.specs.Orders.{inverse_order, quotient_order}
 use Rattle.sheet.specs.Answers.{inverse_answer, inverse_report}
-use Rattle.sheet.specs.Dividing.{inverse_twice, division_judged}
+use Rattle.sheet.proofs.DividingLaws.{inverse_twice, division_judged}
 use Rattle.sheet.proofs.dividing.inverse.Goals as goal
 
 -- the number is judged as divided by itself

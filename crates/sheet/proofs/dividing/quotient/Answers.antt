@@ -6,7 +6,7 @@ use Rattle.refusals.specs.Answered.{judged_clear, judged_refused, judged_done, v
 use Rattle.refusals.specs.declared.answer.Value.TheVariants as value
 use Rattle.sheet.specs.Orders.{quotient_order}
 use Rattle.sheet.specs.Answers.{quotient_answer, quotient_report}
-use Rattle.sheet.specs.Dividing.{division_judged}
+use Rattle.sheet.proofs.DividingLaws.{division_judged}
 use Rattle.sheet.proofs.dividing.quotient.Goals as goal
 
 pub divided-requires : goal.divided-requires

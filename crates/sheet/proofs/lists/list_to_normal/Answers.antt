@@ -7,7 +7,7 @@ use Rattle.refusals.specs.Answered.{judged_clear, judged_verdict, judged_refused
 use Rattle.refusals.specs.declared.answer.Checked.TheVariants as checked
 use Rattle.sheet.specs.Orders.{normal_list_order}
 use Rattle.sheet.specs.Answers.{normal_list_answer, normal_list_report, normal_list}
-use Rattle.sheet.specs.Lists.{list_judged}
+use Rattle.sheet.proofs.ListsLaws.{list_judged}
 use Rattle.sheet.proofs.lists.list_to_normal.Goals as goal
 
 pub fill_coordinates-requires : goal.fill_coordinates-requires

@@ -7,7 +7,7 @@ use Rattle.refusals.specs.Answered.{judged_clear, judged_verdict, judged_refused
 use Rattle.refusals.specs.declared.answer.Checked.TheVariants as checked
 use Rattle.sheet.specs.Orders.{polynomial_list_order}
 use Rattle.sheet.specs.Answers.{polynomial_list_answer, polynomial_list_report, polynomial_list}
-use Rattle.sheet.specs.Lists.{polynomials_judged}
+use Rattle.sheet.proofs.ListsLaws.{polynomials_judged}
 use Rattle.sheet.proofs.lists.list_to_polynomial.Goals as goal
 
 pub fill_polynomials-requires : goal.fill_polynomials-requires

@@ -8,7 +8,7 @@ use Rattle.refusals.specs.Verdicts.{first_of}
 use Rattle.refusals.specs.Answered.{judged_clear, then_refused, then_rest}
 use Rattle.sheet.specs.Record.{record_count}
 use Rattle.sheet.specs.Orders.{value_rules, list_order}
-use Rattle.sheet.specs.Lists.{list_judged}
+use Rattle.sheet.proofs.ListsLaws.{list_judged}
 use Rattle.sheet.proofs.lists.polynomial_list_verdict.Goals.{In-Done}
 use Rattle.sheet.proofs.lists.polynomial_list_verdict.Goals as goal
 

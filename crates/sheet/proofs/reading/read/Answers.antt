@@ -6,7 +6,7 @@ use Rattle.refusals.specs.Answered.{answer-refused, judged_clear, part-refuses, 
 use Rattle.sheet.specs.Orders.{shape_order, rebuild_order, read_order}
 use Rattle.sheet.specs.Answers.{summary_in, issued_of, read_answer, read_report}
 use Rattle.sheet.specs.Answered.{issued_promised}
-use Rattle.sheet.specs.Clear.{clear-shaped}
+use Rattle.sheet.proofs.Clear.{clear-shaped}
 use Rattle.sheet.specs.declared.answer.Issued.TheVariants as issued
 use Rattle.sheet.proofs.reading.read.Goals as goal
 

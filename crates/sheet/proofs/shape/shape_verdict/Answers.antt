@@ -10,7 +10,8 @@ use Rattle.refusals.specs.declared.answer.Checked.{Checked}
 use Rattle.refusals.specs.declared.answer.Checked.TheVariants as checked
 use Rattle.sheet.specs.Record.{record_count, column_in}
 use Rattle.sheet.specs.Orders.{bad_length, record_rules, shape_order}
-use Rattle.sheet.specs.Shape.{good_length, walk-misplaced, walk-oversized, walk-on, walk-done, shape-short, shape-long}
+use Rattle.sheet.specs.Shape.{good_length, walk-done, shape-short, shape-long}
+use Rattle.sheet.proofs.ShapeLaws.{walk-misplaced, walk-oversized, walk-on}
 use Rattle.sheet.proofs.shape.shape_verdict.Goals as goal
 
 found : (k p : ℕ) {v w : Verdict} {r : Checked} → r ≡ checked_of (refuse k p) → v ≡ refuse k p → v ≡ w → r ≡ checked_of w

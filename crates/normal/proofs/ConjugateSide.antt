@@ -19,11 +19,11 @@ use Rattle.field.specs.Frobenius.{squared_fixes}
 use Rattle.field.specs.Division.{no_zero_divisors}
 use Rattle.rows.specs.Rows.{comb, Independent}
 use Rattle.normal.specs.Normal.{conjugates, table_rows}
-use Rattle.normal.specs.Coordinates.{selected_unique}
-use Rattle.normal.specs.Selected.{selected_lt, rotate-square}
-use Rattle.normal.specs.Products.{table_rows-table}
-use Rattle.normal.specs.ProductBits.{table-product, table_product-lt}
-use Rattle.normal.specs.Rotation.{rotate_large}
+use Rattle.normal.proofs.Coordinates.{selected_unique}
+use Rattle.normal.proofs.Selected.{selected_lt, rotate-square}
+use Rattle.normal.proofs.Products.{table_rows-table}
+use Rattle.normal.proofs.ProductBits.{table-product, table_product-lt}
+use Rattle.normal.proofs.Rotation.{rotate_large}
 use Rattle.normal.specs.TableProduct.{rotate, table_product}
 
 module _ (f n : ℕ) (deg : Degree f n) (two : 2 ≤ n) (returns : squared f n n 2 ≡ 2) (a : ℕ) (ha : a < 2 ^ n) (free : Independent (conjugates f n a) n) where

@@ -17,14 +17,15 @@ use Rattle.refusals.specs.Verdicts.{clear, first_of}
 use Rattle.field.specs.Ring.{mul_mod-lt}
 use Rattle.rows.specs.Rows.{comb, Independent}
 use Rattle.normal.specs.Normal.{conjugates, coordinates, inverse_rows, table_rows}
-use Rattle.normal.specs.Coordinates.{coordinates_are, inverse_rows-at, table_rows-at}
+use Rattle.normal.specs.Coordinates.{inverse_rows-at, table_rows-at}
+use Rattle.normal.proofs.Coordinates.{coordinates_are}
 use Rattle.normal.specs.Selected.{conjugates-at}
 use Rattle.sheet.specs.Record.{record_count, conjugate_rows_in, inverse_rows_in, table_rows_in, degree_in, row_in, tail_in, conjugate_in, inverse_in, table_in, polynomial_in, tail_of}
 use Rattle.sheet.specs.Orders.{shape_order}
 use Rattle.sheet.specs.Answers.{summary_of, summary_in}
-use Rattle.sheet.specs.Issuing.{based-degree, based-two, based-most, based-free}
+use Rattle.sheet.proofs.Issuing.{based-degree, based-two, based-most, based-free}
 use Rattle.sheet.specs.Sheets.{SheetOf}
-use Rattle.sheet.specs.Written.{written_count, written_shape, written_polynomial, written_element, degree_is, row_is, tail_is, conjugate_is, inverse_is, table_is, conjugates-held, inverse-held, table-held}
+use Rattle.sheet.proofs.Written.{written_count, written_shape, written_polynomial, written_element, degree_is, row_is, tail_is, conjugate_is, inverse_is, table_is, conjugates-held, inverse-held, table-held}
 
 module _ (f n a : ℕ) (sheet : List ℕ) (s : SheetOf f n a sheet) where
   ha : a < 2 ^ n

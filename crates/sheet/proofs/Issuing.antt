@@ -23,13 +23,14 @@ use Rattle.field.specs.Orders.{not_too_large, small-enough}
 use Rattle.field.specs.Refusals.{too_large_lem, degree_rule, element_rule, field_order}
 use Rattle.rows.specs.Rows.{Independent}
 use Rattle.normal.specs.Normal.{conjugates, normal}
-use Rattle.normal.specs.Coordinates.{normal-means}
+use Rattle.normal.proofs.Coordinates.{normal-means}
 use Rattle.sheet.specs.Record.{record_size, record_count, conjugate_in, polynomial_in, sheet_bytes}
 use Rattle.sheet.specs.Orders.{Shaped, room_rule, build_order, basis_order, rebuild_order, normal_rule, differ_rules, shape_order, rebuilt_from, read_order}
-use Rattle.sheet.specs.Clear.{clear-shaped, columns-lt, polynomial-degree}
+use Rattle.sheet.specs.Clear.{columns-lt, polynomial-degree}
+use Rattle.sheet.proofs.Clear.{clear-shaped}
 use Rattle.sheet.specs.Rebuilding.{sheet_bytes-length}
 use Rattle.sheet.specs.Sheets.{Based, SheetOf}
-use Rattle.sheet.specs.Written.{written_count, written_shape, written_polynomial, written_element, written_rebuilt, itself_clear, same_sheets}
+use Rattle.sheet.proofs.Written.{written_count, written_shape, written_polynomial, written_element, written_rebuilt, itself_clear, same_sheets}
 
 -- ---- what is based
 

@@ -17,8 +17,9 @@ use Rattle.field.specs.Trace.{trace-bit}
 use Rattle.field.specs.ConjugateSums.{conjugate_sum, conjugate_sum-zero, conjugate_sum-⊕, conjugate_sum-power}
 use Rattle.rows.specs.Rows.{comb, Independent}
 use Rattle.normal.specs.Normal.{conjugates, coordinates, table_rows, complexity}
-use Rattle.normal.specs.Selected.{selected_sum, selected_lt, selected_squared}
-use Rattle.normal.specs.Coordinates.{listed_ext, coordinates_are, coordinates_unique}
+use Rattle.normal.proofs.Selected.{selected_sum, selected_lt, selected_squared}
+use Rattle.normal.specs.Coordinates.{listed_ext}
+use Rattle.normal.proofs.Coordinates.{coordinates_are, coordinates_unique}
 
 module _ (f n : ℕ) (deg : Degree f n) (big : 2 ≤ n) (returns : squared f n n 2 ≡ 2) (a : ℕ) (ha : a < 2 ^ n) where
   -- ---- every conjugate

@@ -16,11 +16,13 @@ use Rattle.field.specs.Ring.{mul_mod-lt}
 use Rattle.rows.specs.declared.inversion.Inverted.{Inverted}
 use Rattle.rows.specs.Rows.{comb, Independent, Inverse, Inverts}
 use Rattle.rows.specs.Sums.{comb-same}
-use Rattle.rows.specs.Inverses.{inverse_unique_at, inverted-independent, inverted-inverse, inverted-dependency, inverted-length}
+use Rattle.rows.specs.Inverses.{inverted-inverse, inverted-dependency, inverted-length}
+use Rattle.rows.proofs.Inverses.{inverse_unique_at, inverted-independent}
 use Rattle.normal.specs.Normal.{conjugates, normal, dependency, listed, inverse_rows, table_rows, padded, coordinates}
 use Rattle.normal.specs.Basis.{no_basis, built_of}
 use Rattle.normal.specs.Selected.{conjugates-at, conjugates-length}
-use Rattle.normal.specs.Coordinates.{listed_ext, normal-means, dependency_is, inverse_rows-inverse, inverse_rows-length, convert-coordinates}
+use Rattle.normal.specs.Coordinates.{listed_ext, dependency_is, inverse_rows-length}
+use Rattle.normal.proofs.Coordinates.{normal-means, inverse_rows-inverse, convert-coordinates}
 use Rattle.normal.specs.Filling.{padded-length, padded-at, padded-comb, padded_ext, padded-inverse}
 
 module _ (f n a : ℕ) (deg : Degree f n) (small : n ≤ limit) (ha : a < 2 ^ n) (r : Inverted) (inverts : Inverts (padded (conjugates f n a)) n r) where

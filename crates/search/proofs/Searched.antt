@@ -14,9 +14,9 @@ use Rattle.field.specs.Orders.{small-enough}
 use Rattle.field.specs.Checked.{field_accepts}
 use Rattle.search.specs.Search.{complexity_at, grade_at, joined, ranged}
 use Rattle.search.specs.Answers.{search_order, search_of, search_answer}
-use Rattle.search.specs.Walks.{ranged_cut}
-use Rattle.search.specs.Named.{ranged-own}
-use Rattle.search.specs.Orders.{search-outside, search-last, search-past}
+use Rattle.search.proofs.Walks.{ranged_cut}
+use Rattle.search.proofs.Named.{ranged-own}
+use Rattle.search.proofs.Orders.{search-outside, search-last, search-past}
 use Rattle.search.specs.declared.answer.Best.{Best}
 use Rattle.search.specs.declared.answer.Search.TheVariants.{Refused, Found}
 

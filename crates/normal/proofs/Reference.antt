@@ -24,10 +24,12 @@ use Rattle.rows.specs.Linear.{linear_ext, linear_after}
 use Rattle.rows.specs.Sums.{comb-⊕, comb-zero, comb-power}
 use Rattle.normal.specs.Normal.{conjugates, normal, coordinates, inverse_rows, table_rows}
 use Rattle.normal.specs.TableProduct.{rotate, rotated_by}
-use Rattle.normal.specs.Rotation.{half_power, rotate-small, rotate_large}
-use Rattle.normal.specs.Selected.{conjugates-at, selected_lt, rotate-square}
-use Rattle.normal.specs.Coordinates.{normal-means, coordinates_unique, coordinates_are, convert-coordinates, table_rows-at}
-use Rattle.normal.specs.Turns.{rotated_by-lt}
+use Rattle.normal.proofs.Rotation.{half_power, rotate-small, rotate_large}
+use Rattle.normal.specs.Selected.{conjugates-at}
+use Rattle.normal.proofs.Selected.{selected_lt, rotate-square}
+use Rattle.normal.specs.Coordinates.{table_rows-at}
+use Rattle.normal.proofs.Coordinates.{normal-means, coordinates_unique, coordinates_are, convert-coordinates}
+use Rattle.normal.proofs.Turns.{rotated_by-lt}
 
 -- ---- modulo t ^ n + 1
 

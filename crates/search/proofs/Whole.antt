@@ -9,7 +9,7 @@ use Rattle.normal.specs.Normal.{normal, complexity}
 use Rattle.search.specs.Search.{complexity_at, normal_leader, ranged}
 use Rattle.search.specs.Leaders.{leader_exists, leader-normal}
 use Rattle.search.specs.Walks.{normal-leader}
-use Rattle.search.specs.Named.{ranged-named, ranged-nothing}
+use Rattle.search.proofs.Named.{ranged-named, ranged-nothing}
 use Rattle.search.specs.declared.answer.Best.{Best}
 use Rattle.search.specs.declared.answer.Search.TheVariants.{Nothing, Found}
 

@@ -21,11 +21,12 @@ use Rattle.sheet.specs.Record.{record_size, record_count, conjugate_in, polynomi
 use Rattle.sheet.specs.Orders.{build_order, read_order, list_limit, Small}
 use Rattle.sheet.specs.Answers.{issued_of, summary_of, summary_in, build_answer, at_front, built_buffer, read_answer, to_polynomial, polynomial_answer, to_normal, normal_answer, through_table, times_answer, polynomial_list_answer, polynomial_list, normal_list_answer, normal_list}
 use Rattle.sheet.specs.Answered.{done-clear}
-use Rattle.sheet.specs.Held.{held-shape, held_summary}
-use Rattle.sheet.specs.Issuing.{build_issues, build-based, read-sheet, sheet-reads}
+use Rattle.sheet.proofs.Held.{held-shape, held_summary}
+use Rattle.sheet.proofs.Issuing.{build_issues, build-based, read-sheet, sheet-reads}
 use Rattle.sheet.specs.Rebuilding.{sheet_bytes-length}
 use Rattle.sheet.specs.Sheets.{Based, SheetOf}
-use Rattle.sheet.specs.Through.{value-small, values-small, values-clear, list-clear, coordinates-clear}
+use Rattle.sheet.specs.Through.{value-small, values-small}
+use Rattle.sheet.proofs.Through.{values-clear, list-clear, coordinates-clear}
 use Rattle.sheet.specs.declared.answer.Summary.{Summary}
 use Rattle.sheet.specs.declared.answer.Issued.TheVariants as issued
 

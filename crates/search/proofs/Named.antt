@@ -16,11 +16,13 @@ use Rattle.gf2.specs.Truth.{bool_cases, not_both, not_true_false}
 use Rattle.normal.specs.declared.grade.Grade.{Grade}
 use Rattle.search.specs.Search.{normal_leader, complexity_at, grade_at, found_by, alone, precedes, with_count, joined, candidate_of, walked, ranged, Answered, nothing, found, count_of, counted, Named}
 use Rattle.search.specs.Preceding.{not_precedes, precedes_trans, precedes_self}
-use Rattle.search.specs.Joined.{before, better-right, better-left, joined-nothing}
+use Rattle.search.specs.Joined.{before, better-left, joined-nothing}
+use Rattle.search.proofs.Joined.{better-right}
 use Rattle.search.specs.declared.answer.Best.{Best}
 use Rattle.search.specs.declared.answer.Search.{Search}
 use Rattle.search.specs.declared.answer.Search.TheVariants.{Nothing, Found}
-use Rattle.search.specs.Walks.{candidate_is, candidate_none, ranged-count, ranged_answered}
+use Rattle.search.specs.Walks.{candidate_is, candidate_none}
+use Rattle.search.proofs.Walks.{ranged-count, ranged_answered}
 
 record Names (f n first stop : ℕ) (x : Best) : Type 0 where
   pub from : first ≤ x.element

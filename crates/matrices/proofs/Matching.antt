@@ -15,9 +15,10 @@ use Rattle.sheet.specs.Orders.{same}
 use Rattle.sheet.specs.Written.{same_refl, same_equal}
 use Rattle.matrices.specs.Matrices.{in_order, line_end, line_bytes, matrix_bytes, text_bytes, text_size, line_count}
 use Rattle.matrices.specs.Orders.{count_of, common, common_lines, match_rule}
-use Rattle.matrices.specs.Blocks.{in_order-suc, text_length}
+use Rattle.matrices.specs.Blocks.{in_order-suc}
+use Rattle.matrices.proofs.Blocks.{text_length}
 use Rattle.matrices.specs.CommonLines.{common_itself, common-left, lines-all, lines-most}
-use Rattle.matrices.specs.Counting.{text_ends}
+use Rattle.matrices.proofs.Counting.{text_ends}
 
 -- 14, for any two texts that differ
 pub match_differs : (text right : List ℕ) → (text ≡ right → ⊥) → first_of (match_rule text right ∷ []) ≡ refuse 14 (common_lines text right)

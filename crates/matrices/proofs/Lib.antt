@@ -1,0 +1,12 @@
+pub mod Blocks
+pub mod Calls
+pub mod Comparing
+pub mod Counting
+pub mod Entries
+pub mod Exact
+pub mod Examples
+pub mod Judging
+pub mod Matching
+pub mod Places
+pub mod Putting
+pub mod Turned

@@ -1,0 +1,14 @@
+pub mod Building
+pub mod ConjugateSide
+pub mod Conjugated
+pub mod Coordinates
+pub mod Graded
+pub mod Halves
+pub mod ProductBits
+pub mod Products
+pub mod Recursion
+pub mod Reference
+pub mod Rotation
+pub mod Selected
+pub mod Standing
+pub mod Turns

@@ -1,0 +1,5 @@
+pub mod Demand1
+pub mod Grades
+pub mod Performed
+pub mod Refused
+pub mod Unreduced

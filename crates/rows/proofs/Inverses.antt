@@ -1,0 +1,84 @@
+-- Laws of independent rows, of inverses and of dependencies. In order: different numbers pick different sums of independent
+-- rows; the inverse undoes the sums, both ways round; a matrix with an inverse is independent, and it has no other; a
+-- dependency is one number, and denies independence; the answer of inversion is unique, has the
+-- inverse or the dependency, and says whether the rows are independent.
+-- Not here: that independent rows have an inverse (`Decision`).
+-- Assumes nothing.
+use Rattle.std.specs.Prelude.{◌≡◌, refl, ◌↔◌, Bool, true, false, List, ℕ, ◌^◌, ◌≤◌, ◌<◌, length, get_or}
+use Rattle.std.proofs.Common.{sym, ap, ◌∙◌, ⊎_elim, arith, ext_get_or}
+use Rattle.gf2.specs.Numbers.{order}
+use Rattle.gf2.specs.Truth.{not_both}
+use Rattle.rows.specs.declared.inversion.Inverted.{Inverted}
+use Rattle.rows.specs.Rows.{comb, Independent, Inverse, Dependency, InvertsAs, Inverts}
+use Rattle.rows.specs.Sums.{comb-zero, comb-power}
+use Rattle.rows.specs.Inverses.{dependency_dependent, undoes}
+
+-- ---- the inverse undoes the sums
+
+module _ (rows : List ℕ) (n : ℕ) (inv : List ℕ) (inverse : Inverse rows n inv) where
+  pub inverse-right : (v : ℕ) → v < 2 ^ n → comb rows (comb inv v) ≡ v
+  inverse-right = undoes rows inv n inverse.right
+
+  pub inverse_left : (v : ℕ) → v < 2 ^ n → comb inv (comb rows v) ≡ v
+  inverse_left = undoes inv rows n inverse.left
+
+  pub inverse-independent : Independent rows n
+  inverse-independent v p h e = let z : v ≡ 0 = sym (inverse_left v h) ∙ ap (comb inv) e ∙ comb-zero inv in omega arith
+
+  pub inverse_unique_at : (other : List ℕ) → Inverse rows n other → (i : ℕ) → get_or inv i 0 ≡ get_or other i 0
+  inverse_unique_at other o i =
+      ⊎_elim
+      (λ (l : i < n). sym (comb-power inv i) ∙ ap (comb inv) (sym (o.right i l)) ∙ inverse_left (get_or other i 0) (o.shape.row_lt i))
+      (λ (l : n ≤ i). inverse.shape.rest i l ∙ sym (o.shape.rest i l))
+      (order i n)
+
+  pub inverse_unique : (other : List ℕ) → Inverse rows n other → length inv ≡ length other → inv ≡ other
+  inverse_unique other o e = ext_get_or 0 inv other e (λ i l. inverse_unique_at other o i)
+
+-- ---- dependencies
+
+pub dependency-least : (rows : List ℕ) (n v : ℕ) → Dependency rows n v → (w : ℕ) → 0 < w → comb rows w ≡ 0 → v ≤ w
+dependency-least rows n v d w p e = ⊎_elim (λ (l : w < v). absurd (d.smallest w p l e)) (λ (l : v ≤ w). l) (order w v)
+
+pub dependency_unique : (rows : List ℕ) (n v w : ℕ) → Dependency rows n v → Dependency rows n w → v ≡ w
+dependency_unique rows n v w d e =
+    omega (arith, dependency-least rows n v d w e.positive e.vanishes, dependency-least rows n w e v d.positive d.vanishes)
+
+pub inverse_no_dependency : (rows : List ℕ) (n : ℕ) (inv : List ℕ) (v : ℕ) → Inverse rows n inv → Dependency rows n v → ⊥
+inverse_no_dependency rows n inv v i d = dependency_dependent rows n v d (inverse-independent rows n inv i)
+
+-- ---- the answer of inversion
+
+answer : (independent : Bool) (inverse : List ℕ) (dependency : ℕ) → Inverted
+answer independent inverse dependency = record { independent = independent; inverse = inverse; dependency = dependency }
+
+-- the parts of two answers agree
+parts_unique : (rows : List ℕ) (n : ℕ) (s t : Bool) (inv other : List ℕ) (v w : ℕ) → InvertsAs rows n s inv v → InvertsAs rows n t other w → answer s inv v ≡ answer t other w
+unfolding answer
+parts_unique rows n true true inv other v w a b =
+    let i : inv ≡ other = inverse_unique rows n inv a.0 other b.0 (a.1 ∙ sym b.1) in
+    let d : v ≡ w = a.2 ∙ sym b.2 in
+    cc
+parts_unique rows n true false inv other v w a b = absurd (inverse_no_dependency rows n inv w a.0 b.0)
+parts_unique rows n false true inv other v w a b = absurd (inverse_no_dependency rows n other v b.0 a.0)
+parts_unique rows n false false inv other v w a b =
+    let i : inv ≡ other = a.1 ∙ sym b.1 in
+    let d : v ≡ w = dependency_unique rows n v w a.0 b.0 in
+    cc
+
+-- any two answers that the promise of inversion permits are equal
+pub inverted_unique : (rows : List ℕ) (n : ℕ) (r s : Inverted) → Inverts rows n r → Inverts rows n s → r ≡ s
+unfolding answer
+inverted_unique rows n r s a b =
+    parts_unique rows n r.independent s.independent r.inverse s.inverse r.dependency s.dependency a b
+
+parts-independent : (rows : List ℕ) (n : ℕ) (s : Bool) (inv : List ℕ) (v : ℕ) → InvertsAs rows n s inv v → (s ≡ true) ↔ Independent rows n
+parts-independent rows n true inv v a = (λ e. inverse-independent rows n inv a.0, λ free. refl)
+parts-independent rows n false inv v a = (
+  λ e. absurd (not_both false e refl),
+  λ free. absurd (dependency_dependent rows n v a.0 free),
+)
+
+-- it says that the rows are independent exactly where they are
+pub inverted-independent : (rows : List ℕ) (n : ℕ) (r : Inverted) → Inverts rows n r → (r.independent ≡ true) ↔ Independent rows n
+inverted-independent rows n r = parts-independent rows n r.independent r.inverse r.dependency

@@ -1,0 +1,4 @@
+pub mod Decision
+pub mod Insertion
+pub mod Inverses
+pub mod Placing

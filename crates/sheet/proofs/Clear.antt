@@ -1,0 +1,38 @@
+-- What a sheet of good shape has: its size, its places, and numbers below 2 ^ n.
+-- Assumes nothing.
+use Rattle.std.specs.Prelude.{◌≡◌, false, List}
+use Rattle.std.proofs.Common.{⊎_elim, zero-add, arith}
+use Prim.Native.Nat.{ℕ, zero, suc, ◌+◌, ◌-◌, ◌≤◌, ◌<◌}
+use Rattle.gf2.specs.Numbers.{order}
+use Rattle.refusals.specs.Verdicts.{clear, first_of}
+use Rattle.refusals.specs.Orders.{first-clear}
+use Rattle.sheet.specs.Record.{record_count}
+use Rattle.sheet.specs.Orders.{misplaced, oversized, record_rules, shape_order, length_rule, Shaped}
+use Rattle.sheet.specs.Shape.{good_length}
+
+-- ---- what a clear shape says
+
+records_clear : (sheet : List ℕ) (k i : ℕ) → first_of (record_rules sheet i k) ≡ clear → (j : ℕ) → j < k → (misplaced sheet (i + j) ≡ false) × (oversized sheet (i + j) ≡ false)
+unfolding record_rules
+records_clear sheet zero i e j h = absurd (omega arith)
+records_clear sheet (suc k) i e j h =
+    let a = first-clear (record { number = 8; place = i; applies = misplaced sheet i }) _ e in
+    let b = first-clear (record { number = 9; place = i; applies = oversized sheet i }) (record_rules sheet (i + 1) k) a.1 in
+    ⊎_elim
+    (λ (u : j < 1). let z : i + j ≡ i = omega arith in rw z (a.0, b.0))
+    (λ (u : 1 ≤ j).
+    let m : ℕ = j - 1 in
+    let z : i + 1 + m ≡ i + j = omega arith in
+    rw z at (records_clear sheet k (i + 1) b.1 m (omega arith)))
+    (order j 1)
+
+pub clear-shaped : (sheet : List ℕ) → first_of (shape_order sheet) ≡ clear → Shaped sheet
+clear-shaped sheet e =
+    let a = first-clear (length_rule sheet) (record_rules sheet 0 (record_count sheet)) e in
+    let at : (i : ℕ) → i < record_count sheet → (misplaced sheet i ≡ false) × (oversized sheet i ≡ false) =
+    λ i h. rw zero-add at (records_clear sheet (record_count sheet) 0 a.1 i h) in
+    record {
+      size = good_length sheet a.0;
+      places = λ i h. (at i h).0;
+      small = λ i h. (at i h).1;
+    }

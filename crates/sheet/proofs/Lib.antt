@@ -1,0 +1,13 @@
+pub mod Answered
+pub mod Clear
+pub mod ConvertingLaws
+pub mod Divided
+pub mod DividingLaws
+pub mod Held
+pub mod IssuedLaws
+pub mod Issuing
+pub mod Listed
+pub mod ListsLaws
+pub mod ShapeLaws
+pub mod Through
+pub mod Written
