@@ -26,4 +26,4 @@ module _ (b : ℕ) where
   pub count-listed : (m : ℕ) (g : ℕ → ℕ) → count_of b (listed m g) ≡ total m (λ i. cond (eqb (g i) b) 1 0)
   unfolding listed total count_of
   count-listed zero g = refl
-  pub count-listed (suc m) g = ap (λ (x : ℕ). cond (eqb (g 0) b) 1 0 + x) (count-listed m (λ i. g (suc i)))
+  count-listed (suc m) g = ap (λ (x : ℕ). cond (eqb (g 0) b) 1 0 + x) (count-listed m (λ i. g (suc i)))
