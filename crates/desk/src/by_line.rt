@@ -7,14 +7,16 @@ use super::complaints::{say, say_number, say_number_form, say_polynomial_form, s
 use super::converting::{Notation, convert_list};
 use super::filling::{Stop, fill};
 use super::input::{degree_named, line_space};
-use super::lines::{CHUNK, Cursor};
+use super::lines::{CHUNK, Cursor, Source};
 use super::output::Output;
 use super::refusing::{TOO_LARGE, refuse, refuse_line};
 use super::values::{list_space, put_values};
 use refusals::{Checked, Refusal};
-use streams::{Ending, done_if};
+use std::io::Read;
+use streams::{Ending, Host, done_if};
 
-const MOST: u64 = 18446744073709551615;
+// No input has more lists.
+const MOST: u64 = u64::MAX;
 
 // The values before a place of a list: the place, or all if the list ends before it.
 fn counted(place: usize, list: &[u64]) -> usize
@@ -28,13 +30,13 @@ fn counted(place: usize, list: &[u64]) -> usize
 }
 
 // The values of a list before a place, converted and written. Each slice is taken by a count that is known to fit it.
-fn convert_before(
+fn convert_before<H: Host>(
     goal: Notation,
     bytes: &[u8],
     from: &[u64],
     into: &mut [u64],
     place: usize,
-    output: Output,
+    output: &mut Output<'_, H>,
 ) -> bool
     requires { length into.old ≤ 4096 }
 {
@@ -45,40 +47,40 @@ fn convert_before(
 }
 
 // A refused list. The values before coordinates that are too large are converted and written.
-fn refuse_part(
+fn refuse_part<H: Host>(
     goal: Notation,
     bytes: &[u8],
     from: &[u64],
     into: &mut [u64],
     before: u64,
     refusal: Refusal,
-    output: Output,
+    output: &mut Output<'_, H>,
 ) -> Ending
     requires { length into.old ≤ 4096 }
 {
     let place = refusal.place;
     if refusal.number != TOO_LARGE {
-        return refuse(refusal);
+        return refuse(output.host, refusal);
     }
     if place >= from.len() {
-        return refuse(refusal);
+        return refuse(output.host, refusal);
     }
     let value = from[place];
     if !convert_before(goal, bytes, from, into, place, output) {
         return Ending::Failed;
     }
-    let index = std::num::wrapping_add_u64(before, place as u64);
-    refuse_line(index, value, degree_named(bytes))
+    let index = before.wrapping_add(place as u64);
+    refuse_line(output.host, index, value, degree_named(bytes))
 }
 
 // The values of one list, converted and written. There were `before` values in the lists before it.
-fn convert_part(
+fn convert_part<H: Host>(
     goal: Notation,
     bytes: &[u8],
     from: &[u64],
     into: &mut [u64],
     before: u64,
-    output: Output,
+    output: &mut Output<'_, H>,
 ) -> Ending
     requires { length into.old ≤ 4096 }
 {
@@ -91,35 +93,35 @@ fn convert_part(
 }
 
 // The start of what is said of a line: its number.
-fn say_line(line: u64) {
-    say(b"desk: line ");
-    say_number(line);
-    say(b": ");
+fn say_line<H: Host>(host: &H, line: u64) {
+    say(host, b"desk: line ");
+    say_number(host, line);
+    say(host, b": ");
 }
 
-fn say_form(goal: Notation) -> Ending {
+fn say_form<H: Host>(host: &H, goal: Notation) -> Ending {
     match goal {
-        Notation::Normal => say_polynomial_form(),
-        Notation::Polynomial => say_number_form(),
+        Notation::Normal => say_polynomial_form(host),
+        Notation::Polynomial => say_number_form(host),
     }
     Ending::BadWord
 }
 
 // How the command ends when the values of the last list are written.
-fn ending_of(goal: Notation, stop: Stop, line: u64, word: &[u8]) -> Ending {
+fn ending_of<H: Host>(host: &H, goal: Notation, stop: Stop, line: u64, word: &[u8]) -> Ending {
     match stop {
         Stop::Full => Ending::Done,
         Stop::End => Ending::Done,
         Stop::Failed => Ending::Failed,
         Stop::Unclear => {
-            say_line(line);
-            say_quoted(word);
-            say_form(goal)
+            say_line(host, line);
+            say_quoted(host, word);
+            say_form(host, goal)
         }
         Stop::Long => {
-            say_line(line);
-            say(b"a word of more than 256 bytes");
-            say_form(goal)
+            say_line(host, line);
+            say(host, b"a word of more than 256 bytes");
+            say_form(host, goal)
         }
     }
 }
@@ -148,14 +150,13 @@ fn is_done(ending: Ending) -> bool {
 }
 
 // The next list of the input, converted and written.
-fn next_part(
+fn next_part<H: Host, R: Read>(
     goal: Notation,
     bytes: &[u8],
-    descriptor: i32,
-    name: &[u8],
+    source: &mut Source<'_, H, R>,
     chunk: &mut [u8; CHUNK],
     cursor: Cursor,
-    output: Output,
+    output: &mut Output<'_, H>,
 ) -> Part
     requires { cursor.size ≤ 65536 }
     ensures { result.cursor.size ≤ 65536 }
@@ -164,7 +165,7 @@ fn next_part(
     let mut word = line_space();
     let mut from = list_space();
     let mut into = list_space();
-    let filled = fill(goal, descriptor, name, chunk, cursor, &mut word, &mut from);
+    let filled = fill(goal, source, chunk, cursor, &mut word, &mut from);
     let count = counted(filled.count, &into);
     let size = filled.size;
     let cursor = filled.cursor;
@@ -178,7 +179,7 @@ fn next_part(
         output,
     );
     if is_done(ending) {
-        let ending = ending_of(goal, stop, cursor.line, &word[..size]);
+        let ending = ending_of(output.host, goal, stop, cursor.line, &word[..size]);
         let last = !goes_on(stop, ending);
         return Part {
             cursor,
@@ -194,12 +195,11 @@ fn next_part(
 }
 
 // Converts the values of an open input, list by list.
-pub(crate) fn convert_input(
+pub(crate) fn convert_input<H: Host, R: Read>(
     goal: Notation,
     bytes: &[u8],
-    descriptor: i32,
-    name: &[u8],
-    output: Output,
+    source: &mut Source<'_, H, R>,
+    output: &mut Output<'_, H>,
 ) -> Ending {
     let mut chunk = io::large_buffer();
     let mut cursor = Cursor {
@@ -207,15 +207,13 @@ pub(crate) fn convert_input(
         size: 0,
         line: 0,
     };
-    let mut lists: u64 = 0;
-    while lists < MOST {
-        let part = next_part(goal, bytes, descriptor, name, &mut chunk, cursor, output);
+    for _ in 0..MOST {
+        let part = next_part(goal, bytes, source, &mut chunk, cursor, output);
         if part.last {
             return part.ending;
         }
         let next = part.cursor;
         cursor = next;
-        lists += 1;
     }
     Ending::Failed
 }

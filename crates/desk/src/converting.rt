@@ -7,13 +7,14 @@ use super::complaints::{one_input, too_many_values, wrong_count};
 use super::input::{
     INPUT_ROOM, degree_named, is_dash, number_at, open_input, path_at, polynomial_at, read_input,
 };
+use super::lines::Source;
 use super::options::{Given, VALUES_AT, WORDS_ROOM};
 use super::output::Output;
 use super::refusing::{refuse, refuse_words};
 use super::values::{list_space, put_values};
-use libc::STDIN_FILENO;
 use refusals::Checked;
-use streams::{Ending, done_if};
+use std::io::Read;
+use streams::{Ending, Host, done_if};
 use words::Word;
 
 // The notation that values are carried to.
@@ -37,49 +38,55 @@ pub(crate) fn convert_list(
 
 // The value that word i has: an element if it is carried to normal coordinates, which may be written as exponents, and else
 // coordinates.
-fn value_at(goal: Notation, i: usize) -> Word {
+fn value_at<H: Host>(host: &H, goal: Notation, i: usize) -> Word {
     match goal {
-        Notation::Normal => polynomial_at(i),
-        Notation::Polynomial => number_at(i),
+        Notation::Normal => polynomial_at(host, i),
+        Notation::Polynomial => number_at(host, i),
     }
 }
 
 // The values of the command line; the result is whether each word has one.
-fn values_of(goal: Notation, places: &[usize; WORDS_ROOM], values: &mut [u64]) -> bool
+fn values_of<H: Host>(
+    host: &H,
+    goal: Notation,
+    places: &[usize; WORDS_ROOM],
+    values: &mut [u64],
+) -> bool
     requires { length values.old ≤ 4096 }
 {
-    let mut i: usize = 0;
-    while i < values.len() {
-        let Word::Number(value) = value_at(goal, places[VALUES_AT + i]) else {
+    for i in 0..values.len() {
+        let Word::Number(value) = value_at(host, goal, places[VALUES_AT + i]) else {
             return false;
         };
         values[i] = value;
-        i += 1;
     }
     true
 }
 
 // The values of the command line, converted through the sheet of word 1, a line each.
-fn convert_values(
+fn convert_values<H: Host>(
     goal: Notation,
     places: &[usize; WORDS_ROOM],
-    output: Output,
+    output: &mut Output<'_, H>,
     from: &mut [u64],
     into: &mut [u64],
 ) -> Ending
     requires { (length from.old ≤ 4096) × (length into.old ≤ 4096) }
 {
-    if !values_of(goal, places, from) {
+    if !values_of(output.host, goal, places, from) {
         return Ending::BadWord;
     }
     let mut bytes = [0u8; INPUT_ROOM];
-    let got = read_input(places[1], &mut bytes);
-    if got < 0 {
+    let Some(size) = read_input(output.host, places[1], &mut bytes) else {
         return Ending::Failed;
-    }
-    let size = io::count(got, &bytes);
+    };
     match convert_list(goal, &bytes[..size], from, into) {
-        Checked::Refused(refusal) => refuse_words(refusal, places, degree_named(&bytes[..size])),
+        Checked::Refused(refusal) => refuse_words(
+            output.host,
+            refusal,
+            places,
+            degree_named(&bytes[..size]),
+        ),
         Checked::Done => done_if(put_values(output, into)),
     }
 }
@@ -99,11 +106,11 @@ fn value_count(words: usize, space: &[u64]) -> usize
 }
 
 // Values from the words of the command line.
-fn convert_words(
+fn convert_words<H: Host>(
     goal: Notation,
     places: &[usize; WORDS_ROOM],
     given: Given,
-    output: Output,
+    output: &mut Output<'_, H>,
 ) -> Ending {
     let mut from = list_space();
     let mut into = list_space();
@@ -112,79 +119,93 @@ fn convert_words(
 }
 
 // Values by line from an open input. The sheet is judged first, by an empty list: one that is refused is so before anything is read.
-fn convert_open(
+fn convert_open<H: Host, R: Read>(
     goal: Notation,
     places: &[usize; WORDS_ROOM],
-    descriptor: i32,
-    name: &[u8],
-    output: Output,
+    source: &mut Source<'_, H, R>,
+    output: &mut Output<'_, H>,
 ) -> Ending {
     let mut bytes = [0u8; INPUT_ROOM];
-    let got = read_input(places[1], &mut bytes);
-    if got < 0 {
+    let Some(size) = read_input(output.host, places[1], &mut bytes) else {
         return Ending::Failed;
-    }
-    let size = io::count(got, &bytes);
+    };
     let mut none = [0u64; 1];
     match convert_list(goal, &bytes[..size], &[0u64; 0], &mut none[..0]) {
-        Checked::Refused(refusal) => refuse(refusal),
-        Checked::Done => convert_input(goal, &bytes[..size], descriptor, name, output),
+        Checked::Refused(refusal) => refuse(output.host, refusal),
+        Checked::Done => convert_input(goal, &bytes[..size], source, output),
     }
 }
 
 // Values by line from the file after --from.
-fn convert_file(
+fn convert_file<H: Host>(
     goal: Notation,
     places: &[usize; WORDS_ROOM],
     given: Given,
-    output: Output,
+    output: &mut Output<'_, H>,
 ) -> Ending {
-    if is_dash(given.from) {
+    if is_dash(output.host, given.from) {
         return convert_standard(goal, places, output);
     }
-    let descriptor = open_input(given.from);
-    if descriptor < 0 {
+    let Some(mut file) = open_input(output.host, given.from) else {
         return Ending::Failed;
-    }
+    };
     let mut path = io::buffer();
-    let size = path_at(given.from, &mut path);
-    convert_open(goal, places, descriptor, &path[..size], output)
+    let size = path_at(output.host, given.from, &mut path);
+    let mut source = Source {
+        host: output.host,
+        input: &mut file,
+        name: &path[..size],
+    };
+    convert_open(goal, places, &mut source, output)
 }
 
 // Values by line from standard input, where the sheet must not come from too.
-fn convert_standard(goal: Notation, places: &[usize; WORDS_ROOM], output: Output) -> Ending {
-    if is_dash(places[1]) {
-        return one_input();
+fn convert_standard<H: Host>(
+    goal: Notation,
+    places: &[usize; WORDS_ROOM],
+    output: &mut Output<'_, H>,
+) -> Ending {
+    if is_dash(output.host, places[1]) {
+        return one_input(output.host);
     }
-    convert_open(goal, places, STDIN_FILENO, b"standard input", output)
+    let mut source = Source {
+        host: output.host,
+        input: &mut output.host.reader(),
+        name: b"standard input",
+    };
+    convert_open(goal, places, &mut source, output)
 }
 
-fn convert(
+fn convert<H: Host>(
     goal: Notation,
     usage: &[u8],
     places: &[usize; WORDS_ROOM],
     given: Given,
-    output: Output,
+    output: &mut Output<'_, H>,
 ) -> Ending {
     if given.from != 0 {
         if given.words != VALUES_AT {
-            return wrong_count(places[0], usage);
+            return wrong_count(output.host, places[0], usage);
         }
         return convert_file(goal, places, given, output);
     }
     if given.words <= VALUES_AT {
-        return wrong_count(places[0], usage);
+        return wrong_count(output.host, places[0], usage);
     }
     if given.words > WORDS_ROOM {
-        return too_many_values();
+        return too_many_values(output.host);
     }
-    if given.words == VALUES_AT + 1 && is_dash(places[VALUES_AT]) {
+    if given.words == VALUES_AT + 1 && is_dash(output.host, places[VALUES_AT]) {
         return convert_standard(goal, places, output);
     }
     convert_words(goal, places, given, output)
 }
 
-pub(crate) fn normal(places: &[usize; WORDS_ROOM], given: Given, output: Output) -> Ending {
+pub(crate) fn normal<H: Host>(
+    places: &[usize; WORDS_ROOM],
+    given: Given,
+    output: &mut Output<'_, H>,
+) -> Ending {
     convert(
         Notation::Normal,
         b"normal SHEET VALUE.., normal SHEET - or normal SHEET --from FILE",
@@ -194,7 +215,11 @@ pub(crate) fn normal(places: &[usize; WORDS_ROOM], given: Given, output: Output)
     )
 }
 
-pub(crate) fn polynomial(places: &[usize; WORDS_ROOM], given: Given, output: Output) -> Ending {
+pub(crate) fn polynomial<H: Host>(
+    places: &[usize; WORDS_ROOM],
+    given: Given,
+    output: &mut Output<'_, H>,
+) -> Ending {
     convert(
         Notation::Polynomial,
         b"polynomial SHEET VALUE.., polynomial SHEET - or polynomial SHEET --from FILE",

@@ -5,72 +5,92 @@ use super::input::polynomial_at;
 use super::options::{Given, WORDS_ROOM};
 use super::output::Output;
 use gf2::degree_of;
-use streams::Ending;
+use streams::{Ending, Host};
 use words::Word;
 
-pub(crate) fn check(places: &[usize; WORDS_ROOM], given: Given, output: Output) -> Ending {
+pub(crate) fn check<H: Host>(
+    places: &[usize; WORDS_ROOM],
+    given: Given,
+    output: &mut Output<'_, H>,
+) -> Ending {
     if given.words != 2 {
-        return wrong_count(places[0], b"check F");
+        return wrong_count(output.host, places[0], b"check F");
     }
-    let Word::Number(f) = polynomial_at(places[1]) else {
+    let Word::Number(f) = polynomial_at(output.host, places[1]) else {
         return Ending::BadWord;
     };
     answer_check(output, f)
 }
 
-pub(crate) fn multiply(places: &[usize; WORDS_ROOM], given: Given, output: Output) -> Ending {
+pub(crate) fn multiply<H: Host>(
+    places: &[usize; WORDS_ROOM],
+    given: Given,
+    output: &mut Output<'_, H>,
+) -> Ending {
     if given.words != 4 {
-        return wrong_count(places[0], b"multiply F A B");
+        return wrong_count(output.host, places[0], b"multiply F A B");
     }
-    let Word::Number(f) = polynomial_at(places[1]) else {
+    let Word::Number(f) = polynomial_at(output.host, places[1]) else {
         return Ending::BadWord;
     };
-    let Word::Number(a) = polynomial_at(places[2]) else {
+    let Word::Number(a) = polynomial_at(output.host, places[2]) else {
         return Ending::BadWord;
     };
-    let Word::Number(b) = polynomial_at(places[3]) else {
+    let Word::Number(b) = polynomial_at(output.host, places[3]) else {
         return Ending::BadWord;
     };
     answer_value(output, field::multiply(f, a, b))
 }
 
-pub(crate) fn square(places: &[usize; WORDS_ROOM], given: Given, output: Output) -> Ending {
+pub(crate) fn square<H: Host>(
+    places: &[usize; WORDS_ROOM],
+    given: Given,
+    output: &mut Output<'_, H>,
+) -> Ending {
     if given.words != 3 {
-        return wrong_count(places[0], b"square F A");
+        return wrong_count(output.host, places[0], b"square F A");
     }
-    let Word::Number(f) = polynomial_at(places[1]) else {
+    let Word::Number(f) = polynomial_at(output.host, places[1]) else {
         return Ending::BadWord;
     };
-    let Word::Number(a) = polynomial_at(places[2]) else {
+    let Word::Number(a) = polynomial_at(output.host, places[2]) else {
         return Ending::BadWord;
     };
     answer_value(output, field::square(f, a))
 }
 
-pub(crate) fn trace(places: &[usize; WORDS_ROOM], given: Given, output: Output) -> Ending {
+pub(crate) fn trace<H: Host>(
+    places: &[usize; WORDS_ROOM],
+    given: Given,
+    output: &mut Output<'_, H>,
+) -> Ending {
     if given.words != 3 {
-        return wrong_count(places[0], b"trace F A");
+        return wrong_count(output.host, places[0], b"trace F A");
     }
-    let Word::Number(f) = polynomial_at(places[1]) else {
+    let Word::Number(f) = polynomial_at(output.host, places[1]) else {
         return Ending::BadWord;
     };
-    let Word::Number(a) = polynomial_at(places[2]) else {
+    let Word::Number(a) = polynomial_at(output.host, places[2]) else {
         return Ending::BadWord;
     };
     answer_value(output, field::trace(f, a))
 }
 
-pub(crate) fn search(places: &[usize; WORDS_ROOM], given: Given, output: Output) -> Ending {
+pub(crate) fn search<H: Host>(
+    places: &[usize; WORDS_ROOM],
+    given: Given,
+    output: &mut Output<'_, H>,
+) -> Ending {
     if given.words != 4 {
-        return wrong_count(places[0], b"search F FIRST LAST");
+        return wrong_count(output.host, places[0], b"search F FIRST LAST");
     }
-    let Word::Number(f) = polynomial_at(places[1]) else {
+    let Word::Number(f) = polynomial_at(output.host, places[1]) else {
         return Ending::BadWord;
     };
-    let Word::Number(first) = polynomial_at(places[2]) else {
+    let Word::Number(first) = polynomial_at(output.host, places[2]) else {
         return Ending::BadWord;
     };
-    let Word::Number(last) = polynomial_at(places[3]) else {
+    let Word::Number(last) = polynomial_at(output.host, places[3]) else {
         return Ending::BadWord;
     };
     answer_search(output, search::search(f, first, last), places, degree_of(f))

@@ -3,7 +3,9 @@ ghost use Rattle.std.specs.Prelude.{◌≤◌};
 ghost use Rattle.io.specs.Counts.{IsPrefixLen};
 
 use super::converting::Notation;
-use super::lines::{CHUNK, Cursor, Kind, next_line};
+use super::lines::{CHUNK, Cursor, Kind, Source, next_line};
+use std::io::Read;
+use streams::Host;
 use words::Word;
 
 // Why a list has no more values: it is full, or the next line would have to be waited for; the input has ended; the last line is no value; it is too long; a read failed.
@@ -62,10 +64,9 @@ fn waits(cursor: Cursor, count: usize) -> bool {
 }
 
 // The next values of the input, as many as a list has room for or as were read. A word that is no value stays at the front of `word`.
-pub(crate) fn fill(
+pub(crate) fn fill<H: Host, R: Read>(
     goal: Notation,
-    descriptor: i32,
-    name: &[u8],
+    source: &mut Source<'_, H, R>,
     chunk: &mut [u8; CHUNK],
     cursor: Cursor,
     word: &mut [u8],
@@ -76,8 +77,7 @@ pub(crate) fn fill(
 {
     let mut cursor = cursor;
     let mut size: usize = 0;
-    let mut count: usize = 0;
-    while count < values.len() {
+    for count in 0..values.len() {
         if waits(cursor, count) {
             return Filled {
                 count,
@@ -86,7 +86,7 @@ pub(crate) fn fill(
                 stop: Stop::Full,
             };
         }
-        let line = next_line(descriptor, name, chunk, cursor, word);
+        let line = next_line(source, chunk, cursor, word);
         let next = line.cursor;
         cursor = next;
         size = line.size;
@@ -102,10 +102,9 @@ pub(crate) fn fill(
             }
             Taken::Value(value) => values[count] = value,
         }
-        count += 1;
     }
     Filled {
-        count,
+        count: values.len(),
         cursor,
         size,
         stop: Stop::Full,

@@ -1,13 +1,22 @@
 // Lines of an input, one at a time. A line is a word; its end is byte 10, or the end of the input.
-ghost use Rattle.std.specs.Prelude.{◌≡◌, ◌≤◌};
+ghost use Rattle.std.specs.Prelude.{◌≡◌, ◌≤◌, IfSome};
 ghost use Rattle.io.specs.Counts.{IsPrefixLen};
 
-use streams::cannot;
+use std::io::Read;
+use streams::{Host, cannot};
 
 // As much of the input as is read at once.
 pub(crate) const CHUNK: usize = 65536;
 
 pub(crate) const NEWLINE: u8 = 10;
+
+// An open input, and what it is called if a read fails.
+#[derive(Drop)]
+pub(crate) struct Source<'a, H, R> {
+    pub(crate) host: &'a H,
+    pub(crate) input: &'a mut R,
+    pub(crate) name: &'a [u8],
+}
 
 // Where the reader stands: the place of the next byte in the chunk, the bytes that the chunk has, and the number of the last line read.
 #[derive(Clone, Copy)]
@@ -42,8 +51,29 @@ struct Ready {
     failed: bool,
 }
 
+// The bytes that a read puts at the chunk's front, if it does not fail. If it does, a line says so.
+fn read_chunk<H: Host, R: Read>(
+    source: &mut Source<'_, H, R>,
+    chunk: &mut [u8; CHUNK],
+) -> Option<usize>
+    ensures { IfSome result (λ size. size ≤ 65536) }
+{
+    match source.input.read(chunk) {
+        Ok(size) => Some(size),
+        Err(why) => {
+            cannot(source.host, b"read", source.name, &why);
+            None
+        }
+    }
+}
+
 // The chunk as it is, or read anew if all of it was taken. If that fails, a line says so.
-fn chunk_at(descriptor: i32, name: &[u8], chunk: &mut [u8; CHUNK], at: usize, end: usize) -> Ready
+fn chunk_at<H: Host, R: Read>(
+    source: &mut Source<'_, H, R>,
+    chunk: &mut [u8; CHUNK],
+    at: usize,
+    end: usize,
+) -> Ready
     requires { end ≤ 65536 }
     ensures { result.end ≤ 65536 }
 {
@@ -54,14 +84,17 @@ fn chunk_at(descriptor: i32, name: &[u8], chunk: &mut [u8; CHUNK], at: usize, en
             failed: false,
         };
     }
-    let got = libc::read(descriptor, chunk);
-    if got < 0 {
-        cannot(b"read", name);
-    }
-    Ready {
-        at: 0,
-        end: io::count(got, chunk),
-        failed: got < 0,
+    match read_chunk(source, chunk) {
+        Some(size) => Ready {
+            at: 0,
+            end: size,
+            failed: false,
+        },
+        None => Ready {
+            at: 0,
+            end: 0,
+            failed: true,
+        },
     }
 }
 
@@ -80,15 +113,14 @@ fn line_of(at: usize, end: usize, line: u64, size: usize, kind: Kind) -> Line
     let cursor = Cursor {
         at,
         size: end,
-        line: std::num::wrapping_add_u64(line, 1),
+        line: line.wrapping_add(1),
     };
     Line { cursor, size, kind }
 }
 
 // The next line, at the front of `word`.
-pub(crate) fn next_line(
-    descriptor: i32,
-    name: &[u8],
+pub(crate) fn next_line<H: Host, R: Read>(
+    source: &mut Source<'_, H, R>,
     chunk: &mut [u8; CHUNK],
     cursor: Cursor,
     word: &mut [u8],
@@ -99,9 +131,8 @@ pub(crate) fn next_line(
     let mut at = cursor.at;
     let mut end = cursor.size;
     let line = cursor.line;
-    let mut size: usize = 0;
-    while size < word.len() {
-        let ready = chunk_at(descriptor, name, chunk, at, end);
+    for size in 0..word.len() {
+        let ready = chunk_at(source, chunk, at, end);
         at = ready.at;
         end = ready.end;
         if at >= end {
@@ -114,7 +145,6 @@ pub(crate) fn next_line(
             return line_of(at, end, line, size, Kind::Whole);
         }
         word[size] = byte;
-        size += 1;
     }
-    line_of(at, end, line, size, Kind::Long)
+    line_of(at, end, line, word.len(), Kind::Long)
 }

@@ -5,17 +5,17 @@ use super::telling::refuse_for;
 use listing::LISTING_ROOM;
 use normal::grade_number;
 use sheet::{Issued, RECORD, Row, Summary, polynomial_of, row_at};
-use streams::{Ending, done_if};
+use streams::{Ending, Host, done_if};
 
 // The listing in decimal, as the lister prints it.
-fn put_listing(output: Output, bytes: &[u8]) -> bool {
+fn put_listing<H: Host>(output: &mut Output<'_, H>, bytes: &[u8]) -> bool {
     let mut text = [0u8; LISTING_ROOM];
     let end = listing::listing(bytes, &mut text);
     output.put(&text[..end])
 }
 
 // Row i: its number, conjugate, inverse row and table row.
-fn put_row(output: Output, i: usize, row: Row) -> bool {
+fn put_row<H: Host>(output: &mut Output<'_, H>, i: usize, row: Row) -> bool {
     output.put_count(b"", i as u64)
         && output.put_value(b" ", row.conjugate)
         && output.put_value(b" ", row.inverse)
@@ -23,19 +23,17 @@ fn put_row(output: Output, i: usize, row: Row) -> bool {
         && output.put(b"\n")
 }
 
-fn put_rows(output: Output, bytes: &[u8]) -> bool {
-    let mut i: usize = 0;
-    while i < bytes.len() / RECORD {
+fn put_rows<H: Host>(output: &mut Output<'_, H>, bytes: &[u8]) -> bool {
+    for i in 0..bytes.len() / RECORD {
         if !put_row(output, i, row_at(bytes, i)) {
             return false;
         }
-        i += 1;
     }
     true
 }
 
 // Complexity and grade, in words.
-fn put_kind(output: Output, name: &[u8], summary: Summary) -> bool {
+fn put_kind<H: Host>(output: &mut Output<'_, H>, name: &[u8], summary: Summary) -> bool {
     let grade = summary.grade;
     output.put_count(name, summary.complexity as u64)
         && output.put_count(b" grade ", grade_number(grade))
@@ -43,9 +41,9 @@ fn put_kind(output: Output, name: &[u8], summary: Summary) -> bool {
 }
 
 // The listing of a sheet that reading accepts, or its refusal with the cause.
-pub(crate) fn answer_listing(output: Output, bytes: &[u8]) -> Ending {
+pub(crate) fn answer_listing<H: Host>(output: &mut Output<'_, H>, bytes: &[u8]) -> Ending {
     match sheet::read(bytes) {
-        Issued::Refused(refusal) => refuse_for(refusal, causes::why(bytes)),
+        Issued::Refused(refusal) => refuse_for(output.host, refusal, causes::why(bytes)),
         Issued::Done(summary) => {
             if !output.hex {
                 return done_if(put_listing(output, bytes));
@@ -56,7 +54,12 @@ pub(crate) fn answer_listing(output: Output, bytes: &[u8]) -> Ending {
 }
 
 // Degree, f, element, complexity and grade of what reading accepts.
-pub(crate) fn put_accepted(output: Output, f: u64, element: u64, summary: Summary) -> bool {
+pub(crate) fn put_accepted<H: Host>(
+    output: &mut Output<'_, H>,
+    f: u64,
+    element: u64,
+    summary: Summary,
+) -> bool {
     output.put_count(b"accepted degree ", summary.degree as u64)
         && output.put_value(b" f ", f)
         && output.put_value(b" element ", element)
@@ -64,9 +67,9 @@ pub(crate) fn put_accepted(output: Output, f: u64, element: u64, summary: Summar
 }
 
 // The line on a sheet that reading accepts, or its refusal.
-pub(crate) fn answer_verify(output: Output, bytes: &[u8]) -> Ending {
+pub(crate) fn answer_verify<H: Host>(output: &mut Output<'_, H>, bytes: &[u8]) -> Ending {
     match sheet::read(bytes) {
-        Issued::Refused(refusal) => refuse(refusal),
+        Issued::Refused(refusal) => refuse(output.host, refusal),
         Issued::Done(summary) => {
             let f = polynomial_of(bytes);
             let row = row_at(bytes, 0);

@@ -29,9 +29,14 @@ mod values;
 use command::{Command, command_of};
 use options::{Given, Mark, WORDS_ROOM};
 use output::Output;
-use streams::Ending;
+use streams::{Ending, Host, word_at};
 
-fn run(command: Command, places: &[usize; WORDS_ROOM], given: Given, output: Output) -> Ending {
+fn run<H: Host>(
+    command: Command,
+    places: &[usize; WORDS_ROOM],
+    given: Given,
+    output: &mut Output<'_, H>,
+) -> Ending {
     match command {
         Command::Check => field_commands::check(places, given, output),
         Command::Multiply => field_commands::multiply(places, given, output),
@@ -52,12 +57,12 @@ fn run(command: Command, places: &[usize; WORDS_ROOM], given: Given, output: Out
         Command::Polynomial => converting::polynomial(places, given, output),
         Command::Help => pages::put_help(output),
         Command::Version => pages::put_version(output),
-        Command::Unknown => complaints::unknown_command(places[0]),
+        Command::Unknown => complaints::unknown_command(output.host, places[0]),
     }
 }
 
 // The command that the first word names. No word at all asks for help.
-fn command_given(places: &[usize; WORDS_ROOM], given: Given) -> Command {
+fn command_given<H: Host>(host: &H, places: &[usize; WORDS_ROOM], given: Given) -> Command {
     if given.help {
         return Command::Help;
     }
@@ -68,7 +73,7 @@ fn command_given(places: &[usize; WORDS_ROOM], given: Given) -> Command {
         return Command::Help;
     }
     let mut space = input::word_space();
-    let size = os::arg(places[0], &mut space);
+    let size = word_at(host, places[0], &mut space);
     command_of(&space[..size])
 }
 
@@ -85,49 +90,49 @@ fn takes_from(command: Command) -> bool {
 }
 
 // The option at a place cannot be used: it is unknown, its file is missing, or it was given before.
-fn refuse_option(i: usize, awaits: usize) -> Ending {
-    match options::mark_at(i) {
-        Mark::Unknown => complaints::unknown_option(i),
+fn refuse_option<H: Host>(host: &H, i: usize, awaits: usize) -> Ending {
+    match options::mark_at(host, i) {
+        Mark::Unknown => complaints::unknown_option(host, i),
         _ => {
             if i == awaits {
-                return complaints::no_file(i);
+                return complaints::no_file(host, i);
             }
-            complaints::given_twice(i)
+            complaints::given_twice(host, i)
         }
     }
 }
 
 // Closes what the command wrote to, and returns how it ended in the end. On a refusal `why` has answered, and no other command has.
-fn close(command: Command, output: Output, ending: Ending) -> Ending {
+fn close<H: Host>(command: Command, output: Output<'_, H>, ending: Ending) -> Ending {
     match command {
         Command::Why => replacing::close_answer(output, ending),
         _ => replacing::close_output(output, ending),
     }
 }
 
-fn answer_given(places: &[usize; WORDS_ROOM], given: Given) -> Ending {
-    let command = command_given(places, given);
+fn answer_given<H: Host>(host: &H, places: &[usize; WORDS_ROOM], given: Given) -> Ending {
+    let command = command_given(host, places, given);
     if given.from != 0 {
         if !takes_from(command) {
-            return complaints::no_from();
+            return complaints::no_from(host);
         }
     }
-    let output = replacing::open_output(given);
-    if output.descriptor < 0 {
+    let Some(mut output) = replacing::open_output(host, given) else {
         return Ending::Failed;
-    }
-    close(command, output, run(command, places, given, output))
+    };
+    let ending = run(command, places, given, &mut output);
+    close(command, output, ending)
 }
 
-fn answer() -> Ending {
+fn answer<H: Host>(host: &H) -> Ending {
     let mut places = options::places_space();
-    let given = options::gather(&mut places);
+    let given = options::gather(host, &mut places);
     if given.fault != 0 {
-        return refuse_option(given.fault, given.awaits);
+        return refuse_option(host, given.fault, given.awaits);
     }
-    answer_given(&places, given)
+    answer_given(host, &places, given)
 }
 
-fn main() {
-    streams::end(answer());
+fn main(rt: HostRuntime) {
+    streams::end(&rt, answer(&rt));
 }

@@ -8,7 +8,7 @@ use super::options::WORDS_ROOM;
 use super::refusing::{refuse_words, refused_if, say_refused};
 use gf2::degree_of;
 use refusals::Refusal;
-use streams::Ending;
+use streams::{Ending, Host};
 
 // The refusal of a text that does not match.
 const NO_MATCH: u8 = 14;
@@ -23,10 +23,8 @@ fn ended_by(byte: u8) -> usize
 // The lines of a text that have their end.
 fn line_count(text: &[u8]) -> usize {
     let mut lines: usize = 0;
-    let mut i: usize = 0;
-    while i < text.len() {
-        lines += ended_by(text[i]);
-        i += 1;
+    for byte in text {
+        lines += ended_by(*byte);
     }
     lines
 }
@@ -45,40 +43,47 @@ fn is_missing(text: &[u8], place: usize) -> bool {
 }
 
 // What must stand at a place: a matrix has n rows and an empty line.
-fn say_expected(place: usize, n: u32) -> bool {
+fn say_expected<H: Host>(host: &H, place: usize, n: u32) -> bool {
     let matrix = place / (n as usize + 1);
     let row = place % (n as usize + 1);
     if row == n as usize {
-        return say(b"the empty line after matrix ") && say_number(matrix as u64);
+        return say(host, b"the empty line after matrix ") && say_number(host, matrix as u64);
     }
-    say(b"row ") && say_number(row as u64) && say(b" of matrix ") && say_number(matrix as u64)
+    say(host, b"row ")
+        && say_number(host, row as u64)
+        && say(host, b" of matrix ")
+        && say_number(host, matrix as u64)
 }
 
 // How the text differs at a place. After n matrices the right text has ended.
-fn say_difference(text: &[u8], place: usize, n: u32) -> bool {
+fn say_difference<H: Host>(host: &H, text: &[u8], place: usize, n: u32) -> bool {
     if place / (n as usize + 1) >= n as usize {
-        return say(b"extra; the right text ends before it");
+        return say(host, b"extra; the right text ends before it");
     }
     if is_missing(text, place) {
-        return say(b"missing; it must be ") && say_expected(place, n);
+        return say(host, b"missing; it must be ") && say_expected(host, place, n);
     }
-    say(b"wrong; it must be ") && say_expected(place, n)
+    say(host, b"wrong; it must be ") && say_expected(host, place, n)
 }
 
 // A refusal of a text for the f and the element that stand on the command line.
-pub(crate) fn refuse_text(
+pub(crate) fn refuse_text<H: Host>(
+    host: &H,
     refusal: Refusal,
     text: &[u8],
     f: u64,
     places: &[usize; WORDS_ROOM],
 ) -> Ending {
     if refusal.number != NO_MATCH {
-        return refuse_words(refusal, places, degree_of(f));
+        return refuse_words(host, refusal, places, degree_of(f));
     }
     refused_if(
-        say_refused(refusal.number as u64, refusal.place as u64)
-            && say(b"the line at this place, counted from 0, is ")
-            && say_difference(text, refusal.place, degree_of(f))
-            && say(b"; desk build F ELEMENT | desk matrices writes the right text\n"),
+        say_refused(host, refusal.number as u64, refusal.place as u64)
+            && say(host, b"the line at this place, counted from 0, is ")
+            && say_difference(host, text, refusal.place, degree_of(f))
+            && say(
+                host,
+                b"; desk build F ELEMENT | desk matrices writes the right text\n",
+            ),
     )
 }

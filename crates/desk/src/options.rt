@@ -4,6 +4,7 @@ ghost use Rattle.std.specs.Prelude.{◌≡◌, length};
 use super::input::word_space;
 use check::same;
 use sheet::LIST_LIMIT;
+use streams::{Host, word_at, word_count};
 
 // The words before the values of a list: the command and the sheet.
 pub(crate) const VALUES_AT: usize = 2;
@@ -71,9 +72,9 @@ fn mark_of(word: &[u8]) -> Mark {
 }
 
 // What word i is. One that is too long for an option is a word.
-pub(crate) fn mark_at(i: usize) -> Mark {
+pub(crate) fn mark_at<H: Host>(host: &H, i: usize) -> Mark {
     let mut space = word_space();
-    let size = os::arg(i, &mut space);
+    let size = word_at(host, i, &mut space);
     mark_of(&space[..size])
 }
 
@@ -98,11 +99,11 @@ fn with_option(given: Given, i: usize, mark: Mark) -> Given {
 }
 
 // Word i, which is the file of the option before it. A second file for the same option is a fault.
-fn with_file(given: Given, i: usize) -> Given {
+fn with_file<H: Host>(host: &H, given: Given, i: usize) -> Given {
     let mut given = given;
     let option = given.awaits;
     given.awaits = 0;
-    match mark_at(option) {
+    match mark_at(host, option) {
         Mark::To => {
             if given.to != 0 {
                 given.fault = first_fault(given.fault, option);
@@ -133,11 +134,11 @@ fn with_word(given: Given, i: usize, places: &mut [usize; WORDS_ROOM]) -> Given 
 }
 
 // Word i of the command line, with all that was given before it.
-fn with_next(given: Given, i: usize, places: &mut [usize; WORDS_ROOM]) -> Given {
+fn with_next<H: Host>(host: &H, given: Given, i: usize, places: &mut [usize; WORDS_ROOM]) -> Given {
     if given.awaits != 0 {
-        return with_file(given, i);
+        return with_file(host, given, i);
     }
-    match mark_at(i) {
+    match mark_at(host, i) {
         Mark::Word => with_word(given, i, places),
         mark => with_option(given, i, mark),
     }
@@ -145,7 +146,7 @@ fn with_next(given: Given, i: usize, places: &mut [usize; WORDS_ROOM]) -> Given 
 
 // All that the command line has after the program's name. The places of the words go to the front of `places`. An option at the end
 // whose file is missing is at fault.
-pub(crate) fn gather(places: &mut [usize; WORDS_ROOM]) -> Given {
+pub(crate) fn gather<H: Host>(host: &H, places: &mut [usize; WORDS_ROOM]) -> Given {
     let mut given = Given {
         words: 0,
         hex: false,
@@ -156,11 +157,9 @@ pub(crate) fn gather(places: &mut [usize; WORDS_ROOM]) -> Given {
         awaits: 0,
         fault: 0,
     };
-    let count = os::arg_count();
-    let mut i: usize = 1;
-    while i < count {
-        given = with_next(given, i, places);
-        i += 1;
+    let count = word_count(host);
+    for i in 1..count {
+        given = with_next(host, given, i, places);
     }
     given.fault = first_fault(given.fault, given.awaits);
     given

@@ -1,8 +1,8 @@
 // The pages that `desk help` and `desk version` print.
 use super::output::Output;
-use streams::{Ending, done_if};
+use streams::{Ending, Host, done_if};
 
-fn put_number_commands(output: Output) -> bool {
+fn put_number_commands<H: Host>(output: &mut Output<'_, H>) -> bool {
     output.put(b"desk check F                    whether the defining polynomial F is accepted\n")
         && output.put(
             b"desk multiply F A B             A times B modulo F; A and B may be any 64-bit numbers\n",
@@ -18,7 +18,7 @@ fn put_number_commands(output: Output) -> bool {
         )
 }
 
-fn put_sheet_commands(output: Output) -> bool {
+fn put_sheet_commands<H: Host>(output: &mut Output<'_, H>) -> bool {
     output.put(
         b"desk build F ELEMENT            the sheet of ELEMENT, its bytes on standard output\n",
     ) && output.put(b"desk show F ELEMENT             the sheet of ELEMENT, listed\n")
@@ -42,7 +42,7 @@ fn put_sheet_commands(output: Output) -> bool {
         && output.put(b"desk quotient SHEET A B         A divided by B, in normal coordinates\n")
 }
 
-fn put_matrix_commands(output: Output) -> bool {
+fn put_matrix_commands<H: Host>(output: &mut Output<'_, H>) -> bool {
     output.put(
         b"desk matrices SHEET             all matrices of a sheet as text; without SHEET, standard input\n",
     ) && output.put(
@@ -50,7 +50,7 @@ fn put_matrix_commands(output: Output) -> bool {
     )
 }
 
-fn put_other_commands(output: Output) -> bool {
+fn put_other_commands<H: Host>(output: &mut Output<'_, H>) -> bool {
     output.put(b"desk help                       this page; also -h and --help\n")
         && output.put(b"desk version                    the version; also --version\n")
         && output.put(b"\n")
@@ -65,7 +65,7 @@ fn put_other_commands(output: Output) -> bool {
         )
 }
 
-fn put_notations(output: Output) -> bool {
+fn put_notations<H: Host>(output: &mut Output<'_, H>) -> bool {
     output.put(
         b"\nF is a polynomial of degree 2 to 46, an element one of smaller degree. Bit i of its number is the\n",
     ) && output.put(
@@ -77,7 +77,7 @@ fn put_notations(output: Output) -> bool {
     )
 }
 
-fn put_unreduced(output: Output) -> bool {
+fn put_unreduced<H: Host>(output: &mut Output<'_, H>) -> bool {
     output.put(
         b"Elements may come unreduced: multiply, square, trace and normal take any number below 2^64, and answer for\n",
     ) && output.put(
@@ -87,7 +87,7 @@ fn put_unreduced(output: Output) -> bool {
     )
 }
 
-fn put_forms(output: Output) -> bool {
+fn put_forms<H: Host>(output: &mut Output<'_, H>) -> bool {
     output.put(
         b"A listing has a line for each row: its number, conjugate, inverse row and table row.\n",
     ) && output.put(
@@ -97,7 +97,7 @@ fn put_forms(output: Output) -> bool {
     )
 }
 
-fn put_endings(output: Output) -> bool {
+fn put_endings<H: Host>(output: &mut Output<'_, H>) -> bool {
     output.put(
         b"\nA refusal is a line on standard error: refused NUMBER PLACE, and what it means. With check, build, show and list\nthe cause of 2, 3, 5 and 10 follows alone on a second line, in decimal: for 2 the smallest divisor of F of degree\n1 or more; for 3 what x became; for 5 the smallest number above 0 whose set bits select conjugates that sum to\nzero; for 10 the record, the word conjugate, inverse or table, the stored number and the right one.\n",
     ) && output.put(
@@ -107,7 +107,7 @@ fn put_endings(output: Output) -> bool {
     )
 }
 
-pub(crate) fn put_help(output: Output) -> Ending {
+pub(crate) fn put_help<H: Host>(output: &mut Output<'_, H>) -> Ending {
     done_if(
         put_number_commands(output)
             && put_sheet_commands(output)
@@ -121,6 +121,6 @@ pub(crate) fn put_help(output: Output) -> Ending {
 }
 
 // The one version number of the program, the C header and the Rust crate.
-pub(crate) fn put_version(output: Output) -> Ending {
+pub(crate) fn put_version<H: Host>(output: &mut Output<'_, H>) -> Ending {
     done_if(output.put(b"desk 4.0.0\n"))
 }

@@ -5,32 +5,38 @@ use super::options::{VALUES_AT, WORDS_ROOM};
 use super::output::Output;
 use gf2::degree_of;
 use refusals::Refusal;
-use streams::Ending;
+use streams::{Ending, Host, word_at};
 use words::Word;
 
 // The refusal of a candidate for a basis, coordinates or a range end with more bits than the degree.
 pub(crate) const TOO_LARGE: u8 = 4;
 
-// Who is told what a refusal means: standard error, or whoever asked for it as an answer.
-#[derive(Clone, Copy)]
-pub(crate) enum Listener {
-    Errors,
-    Answer(Output),
+// Who is told what a refusal means.
+pub(crate) trait Listener {
+    fn tell(&mut self, words: &[u8]) -> bool;
 }
 
-impl Listener {
-    fn tell(self, words: &[u8]) -> bool {
-        match self {
-            Listener::Errors => say(words),
-            Listener::Answer(output) => output.put(words),
-        }
+// Standard error.
+#[derive(Drop)]
+struct Errors<'a, H>(&'a H);
+
+impl<H: Host> Listener for Errors<'_, H> {
+    fn tell(&mut self, words: &[u8]) -> bool {
+        say(self.0, words)
+    }
+}
+
+// Whoever asked for it as an answer.
+impl<H: Host> Listener for Output<'_, H> {
+    fn tell(&mut self, words: &[u8]) -> bool {
+        self.put(words)
     }
 }
 
 // What document 01's table says of a refusal, and document 02 of 13. The element of 4 is a candidate for a basis, since operands may
 // arrive unreduced (document 02, §6). Refusal 14 has words of its own, in mismatch.rt. A number that neither document has is told as
 // such.
-pub(crate) fn tell_meaning(listener: Listener, number: u8) -> bool {
+pub(crate) fn tell_meaning<L: Listener>(listener: &mut L, number: u8) -> bool {
     match number {
         1 => listener.tell(b"the degree of f is not 2 to 46"),
         2 => listener.tell(b"a polynomial of smaller degree, other than 1, divides f"),
@@ -67,34 +73,38 @@ pub(crate) fn refused_if(told: bool) -> Ending {
 }
 
 // The number and the place.
-pub(crate) fn say_refused(number: u64, place: u64) -> bool {
-    say(b"refused ") && say_number(number) && say(b" ") && say_number(place) && say(b": ")
+pub(crate) fn say_refused<H: Host>(host: &H, number: u64, place: u64) -> bool {
+    say(host, b"refused ")
+        && say_number(host, number)
+        && say(host, b" ")
+        && say_number(host, place)
+        && say(host, b": ")
 }
 
 // The line on a refusal that no word of the command line stands behind.
-pub(crate) fn say_refusal(refusal: Refusal) -> bool {
-    say_refused(refusal.number as u64, refusal.place as u64)
-        && tell_meaning(Listener::Errors, refusal.number)
-        && say(b"\n")
+pub(crate) fn say_refusal<H: Host>(host: &H, refusal: Refusal) -> bool {
+    say_refused(host, refusal.number as u64, refusal.place as u64)
+        && tell_meaning(&mut Errors(host), refusal.number)
+        && say(host, b"\n")
 }
 
-pub(crate) fn refuse(refusal: Refusal) -> Ending {
-    refused_if(say_refusal(refusal))
+pub(crate) fn refuse<H: Host>(host: &H, refusal: Refusal) -> Ending {
+    refused_if(say_refusal(host, refusal))
 }
 
 // The end of a line on a number that is too large: why, and what it must be.
-fn say_degree(degree: u32) -> bool {
-    say(b" has more bits than the degree, ")
-        && say_number(degree as u64)
-        && say(b"; it must be below 2^")
-        && say_number(degree as u64)
-        && say(b"\n")
+fn say_degree<H: Host>(host: &H, degree: u32) -> bool {
+    say(host, b" has more bits than the degree, ")
+        && say_number(host, degree as u64)
+        && say(host, b"; it must be below 2^")
+        && say_number(host, degree as u64)
+        && say(host, b"\n")
 }
 
 // Whether word i is a number with more bits than the degree.
-fn exceeds(i: usize, degree: u32) -> bool {
+fn exceeds<H: Host>(host: &H, i: usize, degree: u32) -> bool {
     let mut space = word_space();
-    let size = os::arg(i, &mut space);
+    let size = word_at(host, i, &mut space);
     match words::polynomial(&space[..size]) {
         Word::Unclear => false,
         Word::Number(number) => degree_of(number) >= degree,
@@ -102,45 +112,49 @@ fn exceeds(i: usize, degree: u32) -> bool {
 }
 
 // The place of the first value of the command line with more bits than the degree; that of the first value if there is none.
-fn first_exceeding(places: &[usize; WORDS_ROOM], degree: u32) -> usize {
-    let mut k: usize = VALUES_AT;
-    while k < WORDS_ROOM {
-        if exceeds(places[k], degree) {
-            return places[k];
+fn first_exceeding<H: Host>(host: &H, places: &[usize; WORDS_ROOM], degree: u32) -> usize {
+    for place in &places[VALUES_AT..] {
+        if exceeds(host, *place, degree) {
+            return *place;
         }
-        k += 1;
     }
     places[VALUES_AT]
 }
 
 // The line on a refusal of values that stand on the command line. One for a value that is too large names its word.
-pub(crate) fn say_words_refusal(
+pub(crate) fn say_words_refusal<H: Host>(
+    host: &H,
     refusal: Refusal,
     places: &[usize; WORDS_ROOM],
     degree: u32,
 ) -> bool {
     if refusal.number != TOO_LARGE {
-        return say_refusal(refusal);
+        return say_refusal(host, refusal);
     }
-    let place = first_exceeding(places, degree);
-    say_refused(refusal.number as u64, refusal.place as u64)
-        && say_word(place)
-        && say_degree(degree)
+    let place = first_exceeding(host, places, degree);
+    say_refused(host, refusal.number as u64, refusal.place as u64)
+        && say_word(host, place)
+        && say_degree(host, degree)
 }
 
-pub(crate) fn refuse_words(refusal: Refusal, places: &[usize; WORDS_ROOM], degree: u32) -> Ending {
-    refused_if(say_words_refusal(refusal, places, degree))
+pub(crate) fn refuse_words<H: Host>(
+    host: &H,
+    refusal: Refusal,
+    places: &[usize; WORDS_ROOM],
+    degree: u32,
+) -> Ending {
+    refused_if(say_words_refusal(host, refusal, places, degree))
 }
 
 // The refusal of coordinates that came by line and are too large. Their place in the list of all values counts from 0, their line from 1.
-pub(crate) fn refuse_line(place: u64, value: u64, degree: u32) -> Ending {
-    let line = std::num::wrapping_add_u64(place, 1);
+pub(crate) fn refuse_line<H: Host>(host: &H, place: u64, value: u64, degree: u32) -> Ending {
+    let line = place.wrapping_add(1);
     refused_if(
-        say_refused(TOO_LARGE as u64, place)
-            && say(b"line ")
-            && say_number(line)
-            && say(b": ")
-            && say_number(value)
-            && say_degree(degree),
+        say_refused(host, TOO_LARGE as u64, place)
+            && say(host, b"line ")
+            && say_number(host, line)
+            && say(host, b": ")
+            && say_number(host, value)
+            && say_degree(host, degree),
     )
 }

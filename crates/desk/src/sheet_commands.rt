@@ -1,17 +1,19 @@
 // The commands on one sheet: build, show, list, verify, why, matrices, times, inverse and quotient.
+ghost use Rattle.std.specs.Prelude.{IfSome};
+ghost use Rattle.io.specs.Counts.{IsPrefixLen};
+
 use super::answers::answer_coordinates;
 use super::complaints::{no_text, wrong_count};
-use super::input::{INPUT_ROOM, degree_named, number_at, polynomial_at, read_input, read_open};
+use super::input::{INPUT_ROOM, degree_named, number_at, polynomial_at, read_input, read_standard};
 use super::listed::{answer_listing, answer_verify};
 use super::matrix_text::answer_matrices;
 use super::options::{Given, WORDS_ROOM};
 use super::output::Output;
 use super::telling::{answer_why, refuse_words_for};
 use gf2::{LIMIT, degree_of};
-use libc::STDIN_FILENO;
 use refusals::Value;
 use sheet::{Issued, RECORD};
-use streams::{Ending, done_if};
+use streams::{Ending, Host, done_if};
 use words::Word;
 
 // Room for the longest sheet.
@@ -24,7 +26,7 @@ enum Purpose {
     Listing,
 }
 
-fn answer_sheet(purpose: Purpose, output: Output, bytes: &[u8]) -> Ending {
+fn answer_sheet<H: Host>(purpose: Purpose, output: &mut Output<'_, H>, bytes: &[u8]) -> Ending {
     match purpose {
         Purpose::Bytes => done_if(output.put(bytes)),
         Purpose::Listing => answer_listing(output, bytes),
@@ -32,9 +34,9 @@ fn answer_sheet(purpose: Purpose, output: Output, bytes: &[u8]) -> Ending {
 }
 
 // The sheet of f and the element, written or listed.
-fn answer_built(
+fn answer_built<H: Host>(
     purpose: Purpose,
-    output: Output,
+    output: &mut Output<'_, H>,
     f: u64,
     element: u64,
     places: &[usize; WORDS_ROOM],
@@ -42,7 +44,13 @@ fn answer_built(
     let mut buffer = [0u8; SHEET_ROOM];
     match sheet::build(f, element, &mut buffer) {
         Issued::Refused(refusal) => {
-            refuse_words_for(refusal, places, degree_of(f), causes::why_build(f, element))
+            refuse_words_for(
+                output.host,
+                refusal,
+                places,
+                degree_of(f),
+                causes::why_build(f, element),
+            )
         }
         Issued::Done(summary) => {
             let size = io::count((RECORD * summary.degree as usize) as isize, &buffer);
@@ -52,29 +60,41 @@ fn answer_built(
 }
 
 // The sheet of the words F ELEMENT, written or listed.
-fn build_words(purpose: Purpose, output: Output, places: &[usize; WORDS_ROOM]) -> Ending {
-    let Word::Number(f) = polynomial_at(places[1]) else {
+fn build_words<H: Host>(
+    purpose: Purpose,
+    output: &mut Output<'_, H>,
+    places: &[usize; WORDS_ROOM],
+) -> Ending {
+    let Word::Number(f) = polynomial_at(output.host, places[1]) else {
         return Ending::BadWord;
     };
-    let Word::Number(element) = polynomial_at(places[2]) else {
+    let Word::Number(element) = polynomial_at(output.host, places[2]) else {
         return Ending::BadWord;
     };
     answer_built(purpose, output, f, element, places)
 }
 
-pub(crate) fn build(places: &[usize; WORDS_ROOM], given: Given, output: Output) -> Ending {
+pub(crate) fn build<H: Host>(
+    places: &[usize; WORDS_ROOM],
+    given: Given,
+    output: &mut Output<'_, H>,
+) -> Ending {
     if given.words != 3 {
-        return wrong_count(places[0], b"build F ELEMENT");
+        return wrong_count(output.host, places[0], b"build F ELEMENT");
     }
-    if libc::isatty(output.descriptor) == 1 {
-        return no_text();
+    if output.is_terminal() {
+        return no_text(output.host);
     }
     build_words(Purpose::Bytes, output, places)
 }
 
-pub(crate) fn show(places: &[usize; WORDS_ROOM], given: Given, output: Output) -> Ending {
+pub(crate) fn show<H: Host>(
+    places: &[usize; WORDS_ROOM],
+    given: Given,
+    output: &mut Output<'_, H>,
+) -> Ending {
     if given.words != 3 {
-        return wrong_count(places[0], b"show F ELEMENT");
+        return wrong_count(output.host, places[0], b"show F ELEMENT");
     }
     build_words(Purpose::Listing, output, places)
 }
@@ -88,7 +108,7 @@ enum Telling {
     Matrices,
 }
 
-fn tell(telling: Telling, output: Output, bytes: &[u8]) -> Ending {
+fn tell<H: Host>(telling: Telling, output: &mut Output<'_, H>, bytes: &[u8]) -> Ending {
     match telling {
         Telling::Listing => answer_listing(output, bytes),
         Telling::Verdict => answer_verify(output, bytes),
@@ -98,52 +118,81 @@ fn tell(telling: Telling, output: Output, bytes: &[u8]) -> Ending {
 }
 
 // The sheet that word 1 names, or standard input if there is none.
-fn read_named(places: &[usize; WORDS_ROOM], given: Given, bytes: &mut [u8]) -> isize {
+fn read_named<H: Host>(
+    host: &H,
+    places: &[usize; WORDS_ROOM],
+    given: Given,
+    bytes: &mut [u8],
+) -> Option<usize>
+    ensures { IfSome result (λ size. IsPrefixLen size bytes.new) }
+{
     if given.words == 2 {
-        return read_input(places[1], bytes);
+        return read_input(host, places[1], bytes);
     }
-    read_open(STDIN_FILENO, b"standard input", bytes)
+    read_standard(host, bytes)
 }
 
-fn read_and_tell(
+fn read_and_tell<H: Host>(
     telling: Telling,
     places: &[usize; WORDS_ROOM],
     given: Given,
-    output: Output,
+    output: &mut Output<'_, H>,
 ) -> Ending {
     let mut bytes = [0u8; INPUT_ROOM];
-    let got = read_named(places, given, &mut bytes);
-    if got < 0 {
+    let Some(size) = read_named(output.host, places, given, &mut bytes) else {
         return Ending::Failed;
-    }
-    let size = io::count(got, &bytes);
+    };
     tell(telling, output, &bytes[..size])
 }
 
-pub(crate) fn list(places: &[usize; WORDS_ROOM], given: Given, output: Output) -> Ending {
+pub(crate) fn list<H: Host>(
+    places: &[usize; WORDS_ROOM],
+    given: Given,
+    output: &mut Output<'_, H>,
+) -> Ending {
     if given.words > 2 {
-        return wrong_count(places[0], b"list SHEET, or desk list < SHEET");
+        return wrong_count(output.host, places[0], b"list SHEET, or desk list < SHEET");
     }
     read_and_tell(Telling::Listing, places, given, output)
 }
 
-pub(crate) fn verify(places: &[usize; WORDS_ROOM], given: Given, output: Output) -> Ending {
+pub(crate) fn verify<H: Host>(
+    places: &[usize; WORDS_ROOM],
+    given: Given,
+    output: &mut Output<'_, H>,
+) -> Ending {
     if given.words > 2 {
-        return wrong_count(places[0], b"verify SHEET, or desk verify < SHEET");
+        return wrong_count(
+            output.host,
+            places[0],
+            b"verify SHEET, or desk verify < SHEET",
+        );
     }
     read_and_tell(Telling::Verdict, places, given, output)
 }
 
-pub(crate) fn why(places: &[usize; WORDS_ROOM], given: Given, output: Output) -> Ending {
+pub(crate) fn why<H: Host>(
+    places: &[usize; WORDS_ROOM],
+    given: Given,
+    output: &mut Output<'_, H>,
+) -> Ending {
     if given.words > 2 {
-        return wrong_count(places[0], b"why SHEET, or desk why < SHEET");
+        return wrong_count(output.host, places[0], b"why SHEET, or desk why < SHEET");
     }
     read_and_tell(Telling::Cause, places, given, output)
 }
 
-pub(crate) fn matrices(places: &[usize; WORDS_ROOM], given: Given, output: Output) -> Ending {
+pub(crate) fn matrices<H: Host>(
+    places: &[usize; WORDS_ROOM],
+    given: Given,
+    output: &mut Output<'_, H>,
+) -> Ending {
     if given.words > 2 {
-        return wrong_count(places[0], b"matrices SHEET, or desk matrices < SHEET");
+        return wrong_count(
+            output.host,
+            places[0],
+            b"matrices SHEET, or desk matrices < SHEET",
+        );
     }
     read_and_tell(Telling::Matrices, places, given, output)
 }
@@ -165,48 +214,62 @@ fn result_of(operation: Operation, bytes: &[u8]) -> Value {
 }
 
 // What is worked out through the sheet of word 1.
-fn answer_operation(operation: Operation, places: &[usize; WORDS_ROOM], output: Output) -> Ending {
+fn answer_operation<H: Host>(
+    operation: Operation,
+    places: &[usize; WORDS_ROOM],
+    output: &mut Output<'_, H>,
+) -> Ending {
     let mut bytes = [0u8; INPUT_ROOM];
-    let got = read_input(places[1], &mut bytes);
-    if got < 0 {
+    let Some(size) = read_input(output.host, places[1], &mut bytes) else {
         return Ending::Failed;
-    }
-    let size = io::count(got, &bytes);
+    };
     let degree = degree_named(&bytes[..size]);
     answer_coordinates(output, result_of(operation, &bytes[..size]), places, degree)
 }
 
-pub(crate) fn times(places: &[usize; WORDS_ROOM], given: Given, output: Output) -> Ending {
+pub(crate) fn times<H: Host>(
+    places: &[usize; WORDS_ROOM],
+    given: Given,
+    output: &mut Output<'_, H>,
+) -> Ending {
     if given.words != 4 {
-        return wrong_count(places[0], b"times SHEET A B");
+        return wrong_count(output.host, places[0], b"times SHEET A B");
     }
-    let Word::Number(a) = number_at(places[2]) else {
+    let Word::Number(a) = number_at(output.host, places[2]) else {
         return Ending::BadWord;
     };
-    let Word::Number(b) = number_at(places[3]) else {
+    let Word::Number(b) = number_at(output.host, places[3]) else {
         return Ending::BadWord;
     };
     answer_operation(Operation::Product(a, b), places, output)
 }
 
-pub(crate) fn inverse(places: &[usize; WORDS_ROOM], given: Given, output: Output) -> Ending {
+pub(crate) fn inverse<H: Host>(
+    places: &[usize; WORDS_ROOM],
+    given: Given,
+    output: &mut Output<'_, H>,
+) -> Ending {
     if given.words != 3 {
-        return wrong_count(places[0], b"inverse SHEET A");
+        return wrong_count(output.host, places[0], b"inverse SHEET A");
     }
-    let Word::Number(a) = number_at(places[2]) else {
+    let Word::Number(a) = number_at(output.host, places[2]) else {
         return Ending::BadWord;
     };
     answer_operation(Operation::Inverse(a), places, output)
 }
 
-pub(crate) fn quotient(places: &[usize; WORDS_ROOM], given: Given, output: Output) -> Ending {
+pub(crate) fn quotient<H: Host>(
+    places: &[usize; WORDS_ROOM],
+    given: Given,
+    output: &mut Output<'_, H>,
+) -> Ending {
     if given.words != 4 {
-        return wrong_count(places[0], b"quotient SHEET A B");
+        return wrong_count(output.host, places[0], b"quotient SHEET A B");
     }
-    let Word::Number(a) = number_at(places[2]) else {
+    let Word::Number(a) = number_at(output.host, places[2]) else {
         return Ending::BadWord;
     };
-    let Word::Number(b) = number_at(places[3]) else {
+    let Word::Number(b) = number_at(output.host, places[3]) else {
         return Ending::BadWord;
     };
     answer_operation(Operation::Quotient(a, b), places, output)

@@ -6,6 +6,7 @@ use super::lines::NEWLINE;
 use super::output::Output;
 use listing::{NUMBER_ROOM, put_bytes, put_number};
 use sheet::LIST_LIMIT;
+use streams::Host;
 
 // Room for the lines of the longest list.
 const TEXT_ROOM: usize = LIST_LIMIT * NUMBER_ROOM;
@@ -53,16 +54,14 @@ fn put_lines(text: &mut [u8], values: &[u64], hex: bool) -> usize
     ensures { IsPrefixLen result text.new }
 {
     let mut at: usize = 0;
-    let mut i: usize = 0;
-    while i < values.len() {
-        at = put_line(text, at, values[i], hex);
-        i += 1;
+    for value in values {
+        at = put_line(text, at, *value, hex);
     }
     at
 }
 
 // Writes the values, a line each, in one piece.
-pub(crate) fn put_values(output: Output, values: &[u64]) -> bool
+pub(crate) fn put_values<H: Host>(output: &mut Output<'_, H>, values: &[u64]) -> bool
     requires { length values.now ≤ 4096 }
 {
     let mut text = text_space();

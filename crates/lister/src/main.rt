@@ -3,10 +3,9 @@
 #![tactic(auto)]
 
 use gf2::LIMIT;
-use libc::{STDERR_FILENO, STDIN_FILENO};
 use listing::LISTING_ROOM;
 use sheet::{Issued, RECORD};
-use streams::{Ending, cannot, end, finish_output, read_whole, write_output};
+use streams::{Ending, Host, cannot, end, finish_output, read_whole, word_count, write_output};
 
 // How the run ends when the listing is written: a sheet that reading refuses is refused.
 fn ending_of(sheet: &[u8]) -> Ending {
@@ -16,33 +15,30 @@ fn ending_of(sheet: &[u8]) -> Ending {
     }
 }
 
-fn list(sheet: &[u8]) -> Ending {
+fn list<H: Host>(host: &H, sheet: &[u8]) -> Ending {
     let mut text = [0u8; LISTING_ROOM];
     let end = listing::listing(sheet, &mut text);
-    if write_output(&text[..end]) && finish_output() {
+    if write_output(host, &text[..end]) && finish_output(host) {
         return ending_of(sheet);
     }
     Ending::Failed
 }
 
-fn answer() -> Ending {
-    if os::arg_count() > 1 {
-        io::write_all(
-            STDERR_FILENO,
-            b"desk: the lister takes no words; write: lister < SHEET\n",
-        );
+fn answer<H: Host>(host: &H) -> Ending {
+    if word_count(host) > 1 {
+        let _ = host.say(b"desk: the lister takes no words; write: lister < SHEET\n");
         return Ending::BadWord;
     }
     let mut input = [0u8; RECORD * LIMIT + 1];
-    let got = read_whole(STDIN_FILENO, &mut input);
-    if got < 0 {
-        cannot(b"read", b"standard input");
-        return Ending::Failed;
+    match read_whole(&mut host.reader(), &mut input) {
+        Ok(size) => list(host, &input[..size]),
+        Err(why) => {
+            cannot(host, b"read", b"standard input", &why);
+            Ending::Failed
+        }
     }
-    let size = io::count(got, &input);
-    list(&input[..size])
 }
 
-fn main() {
-    end(answer());
+fn main(rt: HostRuntime) {
+    end(&rt, answer(&rt));
 }

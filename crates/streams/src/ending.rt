@@ -1,4 +1,9 @@
 // How a run ended, told to whoever started the program.
+use std::fs::OpenOptions;
+use std::io::Write;
+use std::os::unix::fs::PermissionsExt;
+use std::rt::Files;
+use std::{fs, io};
 
 // Done; refused; a word of the command line cannot be used; something could not be read or written.
 #[derive(Clone, Copy)]
@@ -9,9 +14,12 @@ pub enum Ending {
     Failed,
 }
 
-// The descriptor that the ending goes to. A program has no exit status of its own: whoever starts it opens this descriptor, and takes
-// no byte there for a run that did not come to its end.
-const CHANNEL: i32 = 3;
+// What the ending goes to: descriptor 3, by the name that the system gives it. Whoever starts the program opens it, and takes no byte
+// there for a run that did not come to its end.
+const CHANNEL: &str = "/proc/self/fd/3";
+
+// Set in the permissions that the system shows of a descriptor's name if the descriptor is open for writing.
+const WRITABLE: u32 = 0o200;
 
 fn ending_byte(ending: Ending) -> u8 {
     match ending {
@@ -31,8 +39,22 @@ pub fn done_if(written: bool) -> Ending {
     }
 }
 
+// Whether descriptor 3 is open for writing. A file that is open there to be read alone is none to be written to by its name.
+fn is_listening<F: Files>(files: &F) -> bool {
+    match fs::symlink_metadata(files, CHANNEL) {
+        Ok(there) => there.permissions().mode() & WRITABLE != 0,
+        Err(_) => false,
+    }
+}
+
+fn tell<F: Files>(files: &F, byte: u8) -> io::Result<()> {
+    let mut channel = OpenOptions::new().append(true).open(files, CHANNEL)?;
+    channel.write_all(&[byte])
+}
+
 // Tells how the run ended, by one byte. Nobody may be listening, so it does not matter whether it arrives.
-pub fn end(ending: Ending) {
-    let byte = [ending_byte(ending)];
-    io::write_all(CHANNEL, &byte);
+pub fn end<F: Files>(files: &F, ending: Ending) {
+    if is_listening(files) {
+        let _ = tell(files, ending_byte(ending));
+    }
 }

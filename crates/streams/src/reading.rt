@@ -1,18 +1,20 @@
 // Reading an input to its end.
+ghost use Rattle.std.specs.Io.{ReadsAtMost};
 
-// Reads until the buffer is full or the input ends, and returns how many bytes it put at the buffer's front; -1 if a read failed.
-pub fn read_whole(descriptor: i32, buffer: &mut [u8]) -> isize {
+use std::io;
+use std::io::Read;
+
+// Reads until the buffer is full or the input ends, and returns how many bytes it put at the buffer's front.
+pub fn read_whole<R: Read>(input: &mut R, buffer: &mut [u8]) -> io::Result<usize>
+    ensures { ReadsAtMost result buffer.new }
+{
     let mut done: usize = 0;
     while done < buffer.len() {
-        let got = libc::read(descriptor, &mut buffer[done..]);
-        if got < 0 {
-            return -1;
-        }
-        let more = io::count(got, &buffer[done..]);
+        let more = input.read(&mut buffer[done..])?;
         if more == 0 {
-            return done as isize;
+            return Ok(done);
         }
         done += more;
     }
-    done as isize
+    Ok(done)
 }

@@ -1,34 +1,91 @@
 // Writing a text whole, and the line that says what could not be done.
-use libc::{STDERR_FILENO, STDOUT_FILENO};
+ghost use Rattle.std.specs.Prelude.{IsTrue};
+ghost use Rattle.std.specs.Io.KnownBytes.{Appends};
+
+use super::surroundings::Host;
+use std::fs::{File, OpenFile};
+use std::io::{ErrorKind, Write};
+use std::rt::Files;
+use std::{fs, io};
+
+// Standard output by the name that the system gives it.
+const OUTPUT: &str = "/proc/self/fd/1";
+
+// Room for what the system says of an error.
+const REASON_ROOM: usize = 256;
+
+// The system's own word for why. What std prints of an error has its number after that.
+fn reason_in(text: &str) -> &str {
+    match text.split_once(" (os error ") {
+        Some((word, _)) => word,
+        None => text,
+    }
+}
+
+// The end of the line: why, and the line end.
+fn say_reason<H: Host>(host: &H, why: &io::Error) {
+    let mut space = [0u8; REASON_ROOM];
+    let mut rest: &mut [u8] = &mut space;
+    let _ = write!(rest, "{why}");
+    let size = REASON_ROOM.saturating_sub(rest.len());
+    let text = str::from_utf8(&space[..size]).unwrap_or("");
+    let _ = host.say(reason_in(text).as_bytes());
+    let _ = host.say(b"\n");
+}
 
 // A line on standard error: what could not be done, to what, and the system's own word for why.
-pub fn cannot(what: &[u8], name: &[u8]) {
-    io::write_all(STDERR_FILENO, b"desk: cannot ");
-    io::write_all(STDERR_FILENO, what);
-    io::write_all(STDERR_FILENO, b" ");
-    os::fail(name);
+pub fn cannot<H: Host>(host: &H, what: &[u8], name: &[u8], why: &io::Error) {
+    let _ = host.say(b"desk: cannot ");
+    let _ = host.say(what);
+    let _ = host.say(b" ");
+    let _ = host.say(name);
+    let _ = host.say(b": ");
+    say_reason(host, why);
 }
 
 // Writes all of the text and returns true. If a write fails, a line says so, and it returns false.
-pub fn write_whole(descriptor: i32, name: &[u8], text: &[u8]) -> bool {
-    if io::write_all(descriptor, text) {
-        return true;
+pub fn write_whole<H: Host, W: Write>(host: &H, to: &mut W, name: &[u8], text: &[u8]) -> bool
+    ensures { IsTrue result → Appends (W.contents to.old) (W.contents to.new) text.now }
+{
+    match to.write_all(text) {
+        Ok(()) => true,
+        Err(why) => {
+            cannot(host, b"write", name, &why);
+            false
+        }
     }
-    cannot(b"write", name);
-    false
 }
 
 // Writes all of the text to standard output, as write_whole does.
-pub fn write_output(text: &[u8]) -> bool {
-    write_whole(STDOUT_FILENO, b"standard output", text)
+pub fn write_output<H: Host>(host: &H, text: &[u8]) -> bool {
+    write_whole(host, &mut io::writer(host), b"standard output", text)
 }
 
-// Closes standard output and returns true. If the system held something back that it now fails to write, a line says so, and it
-// returns false.
-pub fn finish_output() -> bool {
-    if libc::close(STDOUT_FILENO) == 0 {
-        return true;
+// Has the system write what it still holds back of standard output. Only a regular file can be one that it holds something back of.
+fn sync_output<F: Files>(files: &F) -> io::Result<()> {
+    let Ok(there) = fs::metadata(files, OUTPUT) else {
+        return Ok(());
+    };
+    if !there.is_file() {
+        return Ok(());
     }
-    cannot(b"write", b"standard output");
-    false
+    let Ok(file) = File::open(files, OUTPUT) else {
+        return Ok(());
+    };
+    match file.sync_data() {
+        Err(why) if why.kind() == ErrorKind::InvalidInput => Ok(()),
+        synced => synced,
+    }
+}
+
+// Syncs standard output and returns true. If the system held something back that it now fails to write, a line says so, and it returns
+// false.
+pub fn finish_output<H: Host>(host: &H) -> bool {
+    match sync_output(host) {
+        Ok(()) => true,
+        Err(why) => {
+            cannot(host, b"write", b"standard output", &why);
+            false
+        }
+    }
 }

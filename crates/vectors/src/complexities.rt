@@ -1,6 +1,7 @@
 // The least complexity of a normal basis, a line for each degree 2 to 20: source document 000's normal basis column, divided by the degree.
 use super::printing::{say, say_complexity};
 use search::Search;
+use streams::Host;
 
 // A polynomial that is accepted, for each degree from 2 on.
 const FIELDS: [u64; 19] = [
@@ -17,17 +18,19 @@ fn least_complexity(f: u64, last: u64) -> u64 {
     }
 }
 
-fn print_least() -> bool {
-    let mut n: usize = 2;
-    while n < 21 {
-        if !say_complexity(n as u64, least_complexity(FIELDS[n - 2], (1u64 << n) - 1)) {
+fn print_least<H: Host>(host: &H) -> bool {
+    for n in 2usize..21 {
+        let last = u64::MAX >> (64 - n);
+        if !say_complexity(host, n as u64, least_complexity(FIELDS[n - 2], last)) {
             return false;
         }
-        n += 1;
     }
     true
 }
 
-pub(crate) fn run() -> bool {
-    say(b"least complexities, source document 000: degree, complexity\n") && print_least()
+pub(crate) fn run<H: Host>(host: &H) -> bool {
+    say(
+        host,
+        b"least complexities, source document 000: degree, complexity\n",
+    ) && print_least(host)
 }

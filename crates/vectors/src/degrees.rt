@@ -6,6 +6,7 @@ use super::printing::{end_line, say, say_number};
 use super::remainders::{Asked, Counted, count_on};
 use gf2::LIMIT;
 use sheet::RECORD;
+use streams::Host;
 
 // For each degree 2 to 46 the smallest polynomial in whose field x is normal.
 const FIELDS: [u64; 45] = [
@@ -129,33 +130,40 @@ fn count_degrees(counted: Counted, tail: Tail) -> usize {
     count
 }
 
-fn say_count(words: &[u8], counted: Counted, tail: Tail) -> bool {
-    say_number(words, count_degrees(counted, tail) as u64)
+fn say_count<H: Host>(host: &H, words: &[u8], counted: Counted, tail: Tail) -> bool {
+    say_number(host, words, count_degrees(counted, tail) as u64)
 }
 
 // What is counted with every polynomial.
-fn print_tail(words: &[u8], tail: Tail) -> bool {
-    say(words)
-        && say_count(b": product ", Counted::Words(Asked::Product), tail)
-        && say_count(b", square ", Counted::Words(Asked::Square), tail)
-        && say_count(b", coordinates ", Counted::Words(Asked::Coordinates), tail)
-        && say_count(b", return trip ", Counted::Words(Asked::Return), tail)
-        && say_count(b", lists of 40 ", Counted::ShortList, tail)
-        && say_count(b", lists of 60 ", Counted::LongList, tail)
-        && end_line()
+fn print_tail<H: Host>(host: &H, words: &[u8], tail: Tail) -> bool {
+    say(host, words)
+        && say_count(host, b": product ", Counted::Words(Asked::Product), tail)
+        && say_count(host, b", square ", Counted::Words(Asked::Square), tail)
+        && say_count(
+            host,
+            b", coordinates ",
+            Counted::Words(Asked::Coordinates),
+            tail,
+        )
+        && say_count(host, b", return trip ", Counted::Words(Asked::Return), tail)
+        && say_count(host, b", lists of 40 ", Counted::ShortList, tail)
+        && say_count(host, b", lists of 60 ", Counted::LongList, tail)
+        && end_line(host)
 }
 
 // 60 words at 45 degrees are 2700, and 40 are 1800. The trace needs a polynomial that is accepted.
-pub(crate) fn run() -> bool {
-    say(b"60 words at each degree 2 to 46: how many are answered as their remainders\n")
-        && say_count(
-            b"modulo f: trace ",
-            Counted::Words(Asked::Trace),
-            Tail::Built,
-        )
-        && end_line()
-        && print_tail(b"modulo f", Tail::Built)
-        && print_tail(b"modulo x^n", Tail::Nothing)
-        && print_tail(b"modulo x^n + 1", Tail::One)
-        && print_tail(b"modulo x^n + .. + 1", Tail::All)
+pub(crate) fn run<H: Host>(host: &H) -> bool {
+    say(
+        host,
+        b"60 words at each degree 2 to 46: how many are answered as their remainders\n",
+    ) && say_count(
+        host,
+        b"modulo f: trace ",
+        Counted::Words(Asked::Trace),
+        Tail::Built,
+    ) && end_line(host)
+        && print_tail(host, b"modulo f", Tail::Built)
+        && print_tail(host, b"modulo x^n", Tail::Nothing)
+        && print_tail(host, b"modulo x^n + 1", Tail::One)
+        && print_tail(host, b"modulo x^n + .. + 1", Tail::All)
 }

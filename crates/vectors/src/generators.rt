@@ -4,6 +4,7 @@
 use super::printing::{say, say_complexity, say_refusal};
 use gf2::LIMIT;
 use sheet::{Issued, RECORD};
+use streams::Host;
 
 const ROW_40: u64 = 1 << 40
     | 1 << 39
@@ -162,25 +163,30 @@ const ROWS: [u64; 7] = [ROW_40, ROW_41, ROW_42, ROW_43, ROW_44, ROW_45, ROW_46];
 const X: u64 = 2;
 
 // The basis of x in the field of f.
-fn print_generator(f: u64) -> bool {
+fn print_generator<H: Host>(host: &H, f: u64) -> bool {
     let mut sheet = [0u8; RECORD * LIMIT];
     match sheet::build(f, X, &mut sheet) {
-        Issued::Refused(refusal) => say_refusal(refusal),
-        Issued::Done(summary) => say_complexity(summary.degree as u64, summary.complexity as u64),
+        Issued::Refused(refusal) => say_refusal(host, refusal),
+        Issued::Done(summary) => say_complexity(
+            host,
+            summary.degree as u64,
+            summary.complexity as u64,
+        ),
     }
 }
 
-fn print_generators() -> bool {
-    let mut row: usize = 0;
-    while row < 7 {
-        if !print_generator(ROWS[row]) {
+fn print_generators<H: Host>(host: &H) -> bool {
+    for f in &ROWS {
+        if !print_generator(host, *f) {
             return false;
         }
-        row += 1;
     }
     true
 }
 
-pub(crate) fn run() -> bool {
-    say(b"generators of table 5, source document 001: degree, complexity\n") && print_generators()
+pub(crate) fn run<H: Host>(host: &H) -> bool {
+    say(
+        host,
+        b"generators of table 5, source document 001: degree, complexity\n",
+    ) && print_generators(host)
 }

@@ -32,25 +32,25 @@ mod sheets;
 mod texts;
 mod unreduced;
 
-use streams::{done_if, end, finish_output};
+use streams::{Host, done_if, end, finish_output};
 
-fn run() -> bool {
-    complexities::run()
-        && generators::run()
-        && sheets::run()
-        && conversions::run()
-        && divisions::run()
-        && checks::run()
-        && searches::run()
-        && grades::run()
-        && texts::run()
-        && reasons::run()
-        && records::run()
-        && unreduced::run()
-        && degrees::run()
-        && finish_output()
+fn run<H: Host>(host: &H) -> bool {
+    complexities::run(host)
+        && generators::run(host)
+        && sheets::run(host)
+        && conversions::run(host)
+        && divisions::run(host)
+        && checks::run(host)
+        && searches::run(host)
+        && grades::run(host)
+        && texts::run(host)
+        && reasons::run(host)
+        && records::run(host)
+        && unreduced::run(host)
+        && degrees::run(host)
+        && finish_output(host)
 }
 
-fn main() {
-    end(done_if(run()));
+fn main(rt: HostRuntime) {
+    end(&rt, done_if(run(&rt)));
 }

@@ -2,30 +2,31 @@
 use super::printing::{end_line, say, say_number};
 use normal::grade_number;
 use search::Search;
+use streams::Host;
 
 // What the search of a range answers.
-fn print_answer(answer: Search) -> bool {
+fn print_answer<H: Host>(host: &H, answer: Search) -> bool {
     match answer {
-        Search::Refused(number) => say_number(b": refusal ", number as u64),
-        Search::Nothing => say(b": nothing"),
+        Search::Refused(number) => say_number(host, b": refusal ", number as u64),
+        Search::Nothing => say(host, b": nothing"),
         Search::Found(best) => {
             let grade = best.grade;
-            say_number(b": ", best.element)
-                && say_number(b", complexity ", best.complexity as u64)
-                && say_number(b", grade ", grade_number(grade))
-                && say_number(b", count ", best.count)
+            say_number(host, b": ", best.element)
+                && say_number(host, b", complexity ", best.complexity as u64)
+                && say_number(host, b", grade ", grade_number(grade))
+                && say_number(host, b", count ", best.count)
         }
     }
 }
 
-pub(crate) fn print_search(f: u64, first: u64, last: u64) -> bool {
-    say_number(b"f = ", f)
-        && say_number(b", search ", first)
-        && say_number(b" to ", last)
-        && print_answer(search::search(f, first, last))
-        && end_line()
+pub(crate) fn print_search<H: Host>(host: &H, f: u64, first: u64, last: u64) -> bool {
+    say_number(host, b"f = ", f)
+        && say_number(host, b", search ", first)
+        && say_number(host, b" to ", last)
+        && print_answer(host, search::search(f, first, last))
+        && end_line(host)
 }
 
-pub(crate) fn run() -> bool {
-    print_search(19, 0, 15) && print_search(19, 9, 15) && print_search(19, 10, 15)
+pub(crate) fn run<H: Host>(host: &H) -> bool {
+    print_search(host, 19, 0, 15) && print_search(host, 19, 9, 15) && print_search(host, 19, 10, 15)
 }

@@ -6,6 +6,7 @@ ghost use Rattle.std.specs.Prelude.{◌≤◌};
 use super::printing::{say, say_complexity, say_issued, say_number, say_refusal};
 use matrices::{read_matrices, text_size, write_matrices};
 use sheet::{Issued, RECORD};
+use streams::Host;
 
 // The bytes of a text of degree 2, 3 and 4, and of the second without its last line, which is empty.
 const SIZE_TWO: usize = 2 * (2 * 3 + 1);
@@ -30,45 +31,53 @@ const ROOM: usize = LAST * (LAST * (LAST + 1) + 1);
 const ONE: u8 = 49;
 
 // What reading a text for f and the element answers, after the words that say which text it is.
-fn print_reading(f: u64, element: u64, words: &[u8], text: &[u8]) -> bool {
-    say_number(b"matrices of ", f)
-        && say_number(b" and ", element)
-        && say(words)
-        && say_issued(read_matrices(f, element, text))
+fn print_reading<H: Host>(host: &H, f: u64, element: u64, words: &[u8], text: &[u8]) -> bool {
+    say_number(host, b"matrices of ", f)
+        && say_number(host, b" and ", element)
+        && say(host, words)
+        && say_issued(host, read_matrices(f, element, text))
 }
 
 // The text of the sheet of f and the element, in a buffer of its size, and what reading it back answers.
-fn print_text(f: u64, element: u64, sheet: &[u8], text: &mut [u8]) -> bool {
-    if !say_number(b"matrices of ", f) || !say_number(b" and ", element) || !say(b":\n") {
+fn print_text<H: Host>(host: &H, f: u64, element: u64, sheet: &[u8], text: &mut [u8]) -> bool {
+    if !say_number(host, b"matrices of ", f)
+        || !say_number(host, b" and ", element)
+        || !say(host, b":\n")
+    {
         return false;
     }
     match write_matrices(sheet, text) {
-        Issued::Refused(refusal) => say_refusal(refusal),
-        Issued::Done(_) => say(text) && print_reading(f, element, b", read back: ", text),
+        Issued::Refused(refusal) => say_refusal(host, refusal),
+        Issued::Done(_) => say(host, text)
+            && print_reading(host, f, element, b", read back: ", text),
     }
 }
 
-fn print_two() -> bool {
+fn print_two<H: Host>(host: &H) -> bool {
     let mut sheet = [0u8; 2 * RECORD];
     sheet::build(7, 2, &mut sheet);
     let mut text = [0u8; SIZE_TWO];
-    print_text(7, 2, &sheet, &mut text)
+    print_text(host, 7, 2, &sheet, &mut text)
 }
 
-fn print_three() -> bool {
+// What reading back answers of the text of degree 3 without its last line.
+fn print_shorter<H: Host>(host: &H, text: &[u8; SIZE_THREE]) -> bool {
+    print_reading(host, 11, 3, b" without the last line: ", &text[..SHORTER])
+}
+
+fn print_three<H: Host>(host: &H) -> bool {
     let mut sheet = [0u8; 3 * RECORD];
     sheet::build(11, 3, &mut sheet);
     let mut text = [0u8; SIZE_THREE];
-    print_text(11, 3, &sheet, &mut text)
-        && print_reading(11, 3, b" without the last line: ", &text[..SHORTER])
+    print_text(host, 11, 3, &sheet, &mut text) && print_shorter(host, &text)
 }
 
 // Here the table is not symmetric, so that a text with its indices in another order differs.
-fn print_four() -> bool {
+fn print_four<H: Host>(host: &H) -> bool {
     let mut sheet = [0u8; 4 * RECORD];
     sheet::build(19, 8, &mut sheet);
     let mut text = [0u8; SIZE_FOUR];
-    print_text(19, 8, &sheet, &mut text)
+    print_text(host, 19, 8, &sheet, &mut text)
 }
 
 // 1 for the digit 1, else 0.
@@ -90,15 +99,15 @@ fn ones_in(text: &[u8]) -> u64 {
 }
 
 // The ones in a text that reading accepts for x in the field of f.
-fn print_ones(f: u64, text: &[u8]) -> bool {
+fn print_ones<H: Host>(host: &H, f: u64, text: &[u8]) -> bool {
     match read_matrices(f, X, text) {
-        Issued::Refused(refusal) => say_refusal(refusal),
-        Issued::Done(summary) => say_complexity(summary.degree as u64, ones_in(text)),
+        Issued::Refused(refusal) => say_refusal(host, refusal),
+        Issued::Done(summary) => say_complexity(host, summary.degree as u64, ones_in(text)),
     }
 }
 
 // The ones in the text of x in the field of f, of degree n.
-fn print_basis(n: usize, f: u64) -> bool
+fn print_basis<H: Host>(host: &H, n: usize, f: u64) -> bool
     requires { n ≤ 7 }
 {
     let mut sheet = [0u8; LAST * RECORD];
@@ -107,24 +116,25 @@ fn print_basis(n: usize, f: u64) -> bool
     let mut text = [0u8; ROOM];
     write_matrices(&sheet[..length], &mut text);
     let size = text_size(n);
-    print_ones(f, &text[..size])
+    print_ones(host, f, &text[..size])
 }
 
-fn print_bases() -> bool {
-    let mut n: usize = 2;
-    while n <= LAST {
-        if !print_basis(n, POLYNOMIALS[n - 2]) {
+fn print_bases<H: Host>(host: &H) -> bool {
+    for n in 2..=LAST {
+        if !print_basis(host, n, POLYNOMIALS[n - 2]) {
             return false;
         }
-        n += 1;
     }
     true
 }
 
-pub(crate) fn run() -> bool {
-    print_two()
-        && print_three()
-        && print_four()
-        && say(b"ones in the matrices of the best bases, source document 000: degree, ones\n")
-        && print_bases()
+pub(crate) fn run<H: Host>(host: &H) -> bool {
+    print_two(host)
+        && print_three(host)
+        && print_four(host)
+        && say(
+            host,
+            b"ones in the matrices of the best bases, source document 000: degree, ones\n",
+        )
+        && print_bases(host)
 }

@@ -1,11 +1,9 @@
 -- `streams::reading::read_whole` meets its contract. The measure is the room that is left. Assumes nothing.
-use mathlib.Core.Path.{◌≡◌}
-use Prim.Native.Nat.{◌-◌, ◌≤◌}
-use lib.ListN.{length}
+use Rattle.std.proofs.Common.{length, ◌-◌, ◌≡◌, ◌≤◌}
 use Rattle.streams.proofs.reading.read_whole.Given as goal
 
 abbrev pub invariant-loop-done : goal.invariant-loop-done
-invariant-loop-done l = (l.done ≤ length l.initial.buffer) × (length l.buffer ≡ length l.initial.buffer)
+invariant-loop-done g l = (l.done ≤ length l.initial.buffer) × (length l.buffer ≡ length l.initial.buffer)
 
 abbrev pub decreases-loop-done : goal.decreases-loop-done
-decreases-loop-done l = length l.initial.buffer - l.done
+decreases-loop-done g l = length l.initial.buffer - l.done
