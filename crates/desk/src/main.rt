@@ -1,7 +1,7 @@
 // The command line of a designer at the desk: a command, its words, one answer. `desk help` lists the commands.
 //
 // An answer goes to standard output; a refusal, with its meaning and its cause, and the line on a bad word go to standard error, so
-// that a sheet or a list in a file has nothing but itself. The refusal that `why` tells is its answer. A program has no exit status here: this one tells how it ended by a byte of
+// that a sheet or a list in a file has nothing but itself. The refusal that `why` tells is its answer. The program tells how it ended by a byte of
 // its own (`streams::end`), and the script `desk` at the top makes it an exit status.
 #![tactic(auto)]
 

@@ -1,6 +1,6 @@
 -- `desk::listed::answer_verify` meets its contract: a sheet that reading accepts has a good shape. Assumes nothing.
 use Rattle.std.proofs.Common.{sym, ◌∙◌, arith}
-use Rattle.sheet.specs.Answered.{done-shaped}
+use Rattle.sheet.proofs.Answered.{done-shaped}
 use Rattle.desk.proofs.listed.answer_verify.Goals as goal
 
 pub polynomial_of-f-requires : goal.polynomial_of-f-requires

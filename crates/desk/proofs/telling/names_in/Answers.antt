@@ -4,7 +4,8 @@ use Rattle.std.proofs.Common.{sym, ◌∙◌}
 use Rattle.refusals.specs.Verdicts.{first_of}
 use Rattle.sheet.specs.Orders.{read_order}
 use Rattle.sheet.specs.Answers.{summary_in, read_answer}
-use Rattle.sheet.specs.Answered.{done-shaped, refused_verdict}
+use Rattle.sheet.specs.Answered.{refused_verdict}
+use Rattle.sheet.proofs.Answered.{done-shaped}
 use Rattle.causes.specs.Behind.{shape-number, read-shaped}
 use Rattle.desk.proofs.telling.names_in.Goals as goal
 
