@@ -1,7 +1,7 @@
 -- The cases of a cause, by the tests that lead to them.
 --
---   difference-..                              the first field that differs, by the rows that are right
---   polynomial-.., basis-.., sheet-..          what lies behind a refusal, by its number
+--   difference_..                              the first field that differs, by the rows that are right
+--   polynomial.., basis_.., sheet..            what lies behind a refusal, by its number
 --   built_dependency                           what building a basis hands out of an element that is not normal
 --   cause-refused, cause-accepted              the case that a verdict gives
 --   right-row                                  the rows of record i of the sheet that f and a give, by the basis that is built

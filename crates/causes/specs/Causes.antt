@@ -9,7 +9,7 @@
 --   cause_of v behind                the case that a verdict gives: behind says what lies behind each number and place
 --   Reason, cause_report             the numbers of a case, as C is handed them; `field_number`: that of a field
 --   reason_of v behind               the numbers that a verdict gives
---   ..Answer, ..Report              the calls, as functions of their inputs: `why`, `why_check`, `why_build`
+--   .._answer, .._report              the calls, as functions of their inputs: `why`, `why_check`, `why_build`
 --
 -- Assumes nothing.
 use Rattle.std.specs.Prelude.{cond, List, ℕ, ◌*◌, eqb}

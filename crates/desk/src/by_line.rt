@@ -167,9 +167,7 @@ fn next_part<H: Host, R: Read>(
     let mut into = list_space();
     let filled = fill(goal, source, chunk, cursor, &mut word, &mut from);
     let count = counted(filled.count, &into);
-    let size = filled.size;
     let cursor = filled.cursor;
-    let stop = filled.stop;
     let ending = convert_part(
         goal,
         bytes,
@@ -179,8 +177,9 @@ fn next_part<H: Host, R: Read>(
         output,
     );
     if is_done(ending) {
-        let ending = ending_of(output.host, goal, stop, cursor.line, &word[..size]);
-        let last = !goes_on(stop, ending);
+        let wrong = &word[..filled.size];
+        let ending = ending_of(output.host, goal, filled.stop, cursor.line, wrong);
+        let last = !goes_on(filled.stop, ending);
         return Part {
             cursor,
             ending,

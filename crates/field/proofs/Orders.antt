@@ -1,5 +1,4 @@
--- Laws of the field calls' orders: what a path through conditions 1 to 4 finds, and what they leave where they do not apply. What the
--- check's answer means: `Checked`.
+-- The laws of `specs/Orders.antt` that a wrong definition breaks, and what rests on them. The head there tells of both files.
 -- Assumes nothing.
 use Rattle.std.specs.Prelude.{◌≡◌, false, List, [], ◌∷◌, ℕ}
 use Rattle.std.proofs.Common.{sym, ap, ◌∙◌}

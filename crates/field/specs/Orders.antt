@@ -1,5 +1,6 @@
 -- Laws of the field calls' orders: what a path through conditions 1 to 4 finds, and what they leave where they do not apply. What the
 -- check's answer means: `Checked`.
+-- What of this a wrong definition breaks, and what rests on that, stands in `proofs/Orders.antt`.
 -- Assumes nothing.
 use Rattle.std.specs.Prelude.{◌≡◌, refl, Bool, true, false, List, [], ◌∷◌, ℕ, ◌^◌, ◌≤◌, ◌<◌, ltb}
 use Rattle.std.proofs.Common.{ap, ◌∙◌, ⊎_elim, arith, ltb-false, leb-false, le-leb}

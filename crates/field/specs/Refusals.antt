@@ -2,8 +2,8 @@
 -- orders of the three field calls" that have operands (document 02, §6); the check of f never had it.
 -- Definitions alone.
 --
---   ..Rule         the rows 1 to 4
---   ..Order        the orders of the calls, and three parts of orders:
+--   .._rule        the rows 1 to 4
+--   .._order       the orders of the calls, and three parts of orders:
 --   element_order   4 alone
 --   operand_order   1, then 4: what every call on a polynomial and candidates or range ends begins with; operands of the field calls
 --                  have no 4

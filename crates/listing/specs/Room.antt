@@ -1,7 +1,7 @@
 -- The room that a listing takes at most, in bytes. Definitions alone.
 --
 --   number_places    the most decimal digits of a number of 64 bits (`digits-few` in `Lines`)
---   ..Room          the most bytes of a number with its mark, of a line, of a listing (`rows_fit` and `refused_fits` in `Listing`)
+--   .._room         the most bytes of a number with its mark, of a line, of a listing (`rows_fit` and `refused_fits` in `Listing`)
 --
 -- Assumes nothing.
 use Rattle.std.specs.Prelude.{ℕ, ◌+◌, ◌*◌}

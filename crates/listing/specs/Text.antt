@@ -1,6 +1,6 @@
 -- The text that the lister prints (document 01, "Lister"; document 02, §5), as a list of bytes. Definitions alone.
 --
---   space, newline, ..Word   the marks and words, each as its ASCII codes
+--   space, newline, .._word  the marks and words, each as its ASCII codes
 --   decimal v                a number in decimal
 --   number_then v mark        a number in decimal, and the mark after it
 --   row_line, row_lines        the line of one row, and of the first k

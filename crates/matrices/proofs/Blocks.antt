@@ -1,12 +1,4 @@
--- Lists put together in order, and the lines, the matrices and the text as such lists.
---
---   listed_next, in_order-next           one more at the end
---   in_order_ext, text_ext               term by term
---   in_order-length, in_order-drop        blocks of one length: how long they are, and where each stands
---   line-length .. text_length          the bytes of a line, of a matrix and of the text
---   text_line                           line i of matrix k, by its place
---   lines-size-most, text_size-most     bounds
---
+-- The laws of `specs/Blocks.antt` that a wrong definition breaks, and what rests on them. The head there tells of both files.
 -- Assumes nothing.
 use Rattle.std.specs.Prelude.{◌≡◌, take}
 use Rattle.std.proofs.Math.Path.{sym, ap}

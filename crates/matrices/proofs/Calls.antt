@@ -1,12 +1,4 @@
--- What the two calls decide and answer, by what the functions below them found: the verdict of each path, and the clauses of a promise that
--- follow from it.
---
---   built_based, built_verdict     a basis that was built, and the verdict on a text compared with its matrices
---   text_refused, text_rest        reading: 1 or 4 refuses, or 2, 3, 5 and 14 decide
---   write_refused, write_short     writing: what is refused; 6
---   write_done                     the text is written
---
--- When the calls are done: `Judging`. What writing leaves: `Exact`.
+-- The laws of `specs/Calls.antt` that a wrong definition breaks, and what rests on them. The head there tells of both files.
 -- Assumes nothing.
 use Rattle.std.specs.Prelude.{◌≡◌, false, not, ℕ, ◌+◌, ◌≤◌, ◌<◌}
 use Rattle.std.proofs.Math.Path.{sym, ap}

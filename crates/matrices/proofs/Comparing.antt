@@ -1,8 +1,4 @@
--- Comparing a text with the right one: digit after digit a line, line after line a matrix, matrix after matrix the text. Each law is what
--- one turn of a loop finds, or its last step.
---
---   Agrees x y lines p   x and y agree in so many lines up to place p, and what follows there decides
---
+-- The laws of `specs/Comparing.antt` that a wrong definition breaks, and what rests on them. The head there tells of both files.
 -- Assumes nothing.
 use Rattle.std.specs.Prelude.{◌≡◌, refl, ◌⊎◌, true, false, eqb, get_or}
 use Rattle.std.proofs.Math.Path.{sym, ap, ap₂}

@@ -1,5 +1,4 @@
--- How often a byte stands in a text: the digit 1 as often as the entries sum to, and byte 10 once for each line. "The ones written number n
--- times our complexity" (document 02, §4): `ones_written`.
+-- The laws of `specs/Counting.antt` that a wrong definition breaks, and what rests on them. The head there tells of both files.
 -- Assumes nothing.
 use Rattle.std.specs.Prelude.{◌≡◌, [], ◌∷◌, eqb}
 use Rattle.std.proofs.Math.Path.{refl, ap₂}

@@ -1,10 +1,4 @@
--- The entries of the matrices are those of the table. For c_i c_j is c_0 c_(j-i), squared i times, and each squaring turns bit k into bit
--- k+1.
---
---   product-row, row_lt   the coordinates of c_i c_j: a row of the table, rotated i places
---   entry-table           entry (i,j) of T_k is t((j-i) mod n, (k-i) mod n)
---   text_of_conjugate     all conjugates of a normal element have the same text
---
+-- The laws of `specs/Entries.antt` that a wrong definition breaks, and what rests on them. The head there tells of both files.
 -- Assumes nothing.
 use Rattle.std.specs.Prelude.{◌≡◌}
 use Rattle.std.proofs.Math.Path.{sym, ap}

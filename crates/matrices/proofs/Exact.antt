@@ -1,18 +1,4 @@
--- What writing leaves in the lent buffer, and that reading accepts exactly that (document 02, §4): "Prove that the ones written number n
--- times our complexity, and that reading accepts exactly what writing gives for them."
---
---   matrices-size                 the bytes of the text
---   text_given sheet buffer        the text at the front of the buffer, once it is written
---   written_front, written_kept   what the buffer holds: the text, and the bytes past it unchanged; on a refusal it is unchanged
---   given_text, given-ones        that text, and its ones; `given-degree`: the n of that count
---   GivenFor f a text t           writing gave the text, and answered t, from a sheet of f and a
---   sheet_writes, sheet_gives     from the sheet of f and a: the answer, and the text
---   reading_accepts               "reading accepts exactly what writing gives for them", with the same answer
---   built_sheet f a buffer         the sheet at the front of the buffer, once it is built
---   write_built, reading_built    the same over the sheet that build wrote, with the answer that build gave
---   reading_whole                 and over buffers that the sheet and the text fill
---
--- When the two calls are done: `Judging`. Texts that are not right: `Places`.
+-- The laws of `specs/Exact.antt` that a wrong definition breaks, and what rests on them. The head there tells of both files.
 -- Assumes nothing.
 use Rattle.std.specs.Prelude.{◌≡◌, ◌↔◌, take}
 use Rattle.std.proofs.Math.Path.{refl, sym, ap}

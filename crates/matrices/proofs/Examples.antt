@@ -1,14 +1,4 @@
--- Three texts in full, by computation from the definitions, and what reading says of some others. The third shows the order of indices,
--- which the first two do not: their tables are symmetric.
---
---   text_of_two, text_of_three, text_of_four   the texts of f = 7 and element 2, of f = 11 and element 3, and of f = 19 and element 8
---   seven_and-two, eleven_and_three, nineteen_and_eight   that they are; `sizes`, `ones-counted`: their bytes, and their ones
---   Placed text k                      the first line of the text that is not as in the second of them
---   wrong_lines, missing_lines, extra_lines, other-degree   some of these, and why
---   answered                           what reading answers for the right text and for three others
---
--- By hand, for 7 and 2: c_0 c_0 is c_1, c_0 c_1 is c_0 + c_1 and c_1 c_1 is c_0. So T_0 has the lines 01 and 11, and T_1 the lines 11 and
--- 10.
+-- The laws of `specs/Examples.antt` that a wrong definition breaks, and what rests on them. The head there tells of both files.
 -- Assumes nothing.
 use Rattle.std.specs.Prelude.{◌≡◌, refl, [], ◌∷◌, ◌++◌, ℕ, take, drop, set}
 use Rattle.std.specs.Int.Count.{ones, ones_in}

@@ -1,17 +1,4 @@
--- When writing and reading the text of the matrices are done, and what they refuse (document 02, §4): "read them back, answering as build
--- does"; "writing has those of reading a sheet, then 6 for a buffer below n(n(n+1)+1) bytes; reading text has 1, 4, 2, 3, 5, then 14".
---
---   Right f a text                              f is accepted, a is a normal element, and the text is theirs
---   based_order_lem f a, based-listed                what build and reading a text share: 1, 4, 2, 3, 5, each with place 0
---   order_based, based_order                    none of these applies exactly if f is accepted and a is a normal element
---   text_right, right_text                      reading a text finds nothing to refuse exactly for these
---   text_done_exactly                           the same by its answer
---   text_done_as_build, text_refused_as_build   it answers as build does, and refuses what build refuses, whatever the text
---   write_as_read, write_refused_as_read        writing answers as reading the sheet does, given the room, and refuses what that refuses
---   write_done_exactly, write_room_exactly      it is done exactly if reading the sheet is and there is room; else, if that is done, it is 6
---   not_refused                                 done is not refused
---
--- What a sheet is that reading accepts: `read-sheet` in `Issuing` of `sheet`. What writing leaves: `Exact`. 14 and its place: `Places`.
+-- The laws of `specs/Judging.antt` that a wrong definition breaks, and what rests on them. The head there tells of both files.
 -- Assumes nothing.
 use Rattle.std.specs.Prelude.{◌≡◌, ◌↔◌, false, ℕ, zero, suc, ◌+◌, ◌≤◌, ◌<◌}
 use Rattle.std.proofs.Math.Path.{refl, ap}

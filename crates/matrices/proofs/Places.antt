@@ -1,12 +1,4 @@
--- "14, text does not match, place the first wrong, missing or extra line counted from 0" (document 02, §4): when it is given, and what its
--- place is against the right text.
---
---   place_beginning, place_empty, place_extra   "missing": the lines that are there; 0 if nothing is; "extra": all n(n+1) lines
---   matrices-ends, place-most                   the right text has n(n+1) lines, and the place is never more
---   text_differs, text_differs_exactly          14 exactly for an accepted f, a normal element, and a text that is not theirs
---   extra_refused, beginning_refused, empty_refused   the answers for a text that goes on, one that stops, and none
---
--- That the longest common beginning is one of both texts, and none is longer: `CommonLines`.
+-- The laws of `specs/Places.antt` that a wrong definition breaks, and what rests on them. The head there tells of both files.
 -- Assumes nothing.
 use Rattle.std.specs.Prelude.{◌≡◌, ◌↔◌}
 use Rattle.std.proofs.Math.Path.{refl, sym, ap}

@@ -1,6 +1,4 @@
--- Writing the text: digit after digit a line, line after line a matrix, matrix after matrix the text. For each of the three loops: what it
--- starts with (`..-none`), that it keeps the buffer's length (`digits-length`, `..-kept`), what one turn leaves (`..-next`), and the last
--- step (`line-done`, `matrix_done`).
+-- The laws of `specs/Putting.antt` that a wrong definition breaks, and what rests on them. The head there tells of both files.
 -- Assumes nothing.
 use Rattle.std.specs.Prelude.{◌≡◌, List, ℕ, ◌+◌, ◌*◌, ◌≤◌, length, set}
 use Rattle.std.proofs.Common.{sym, ap, ◌∙◌, zero-add, arith}

@@ -1,14 +1,4 @@
--- The lines of the matrices from a table: entry (i,j) of T_k is t((j-i) mod n, (k-i) mod n), taken from the table's rows twice over, where
--- (j-i) mod n is found without turning round.
---
---   twice_limit              room for the rows of the longest table, twice over
---   Twice n table rows      rows has the n rows of the table, once more the same, and zeros
---   Copied n i table rows   the same for the first i of them: what a loop has done
---   turned n rows k i j     entry (i,j) of T_k, from such rows
---   copied_none, -next      how the loop copies
---   twice_unique            no other rows are so
---   turned_text             the text from such rows is that of the definitions
---
+-- The laws of `specs/Turned.antt` that a wrong definition breaks, and what rests on them. The head there tells of both files.
 -- Assumes nothing.
 use Rattle.std.specs.Prelude.{◌≡◌}
 use Rattle.std.proofs.Math.Path.{sym, ap}

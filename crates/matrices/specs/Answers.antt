@@ -2,8 +2,8 @@
 -- lent buffer. "Answering as build does" is said of reading; writing answers so too. Definitions alone.
 --
 --   text_in sheet                 the text of the polynomial and the element that a sheet names
---   write_text_answer, ..Report    writing, as functions of its inputs; `written_text`: what the lent buffer holds at the end
---   read_text_answer, ..Report     reading
+--   write_text_answer, .._report   writing, as functions of its inputs; `written_text`: what the lent buffer holds at the end
+--   read_text_answer, .._report    reading
 --
 -- Assumes nothing.
 use Rattle.std.specs.Prelude.{List, ℕ, length}

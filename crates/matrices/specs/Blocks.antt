@@ -7,6 +7,7 @@
 --   text_line                           line i of matrix k, by its place
 --   lines-size-most, text_size-most     bounds
 --
+-- What of this a wrong definition breaks, and what rests on that, stands in `proofs/Blocks.antt`.
 -- Assumes nothing.
 use Rattle.std.specs.Prelude.{◌≡◌}
 use Rattle.std.proofs.Math.Path.{refl, sym, ap, ap₂}

@@ -7,6 +7,7 @@
 --   write_done                     the text is written
 --
 -- When the calls are done: `Judging`. What writing leaves: `Exact`.
+-- What of this a wrong definition breaks, and what rests on that, stands in `proofs/Calls.antt`.
 -- Assumes nothing.
 use Rattle.std.specs.Prelude.{◌≡◌, ℕ}
 use Rattle.std.proofs.Math.Path.{sym, ap}

@@ -3,6 +3,7 @@
 --
 --   Agrees x y lines p   x and y agree in so many lines up to place p, and what follows there decides
 --
+-- What of this a wrong definition breaks, and what rests on that, stands in `proofs/Comparing.antt`.
 -- Assumes nothing.
 use Rattle.std.specs.Prelude.{◌≡◌, get_or}
 use Rattle.std.proofs.Math.Path.{sym}

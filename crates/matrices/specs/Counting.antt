@@ -1,5 +1,6 @@
 -- How often a byte stands in a text: the digit 1 as often as the entries sum to, and byte 10 once for each line. "The ones written number n
 -- times our complexity" (document 02, §4): `ones_written`.
+-- What of this a wrong definition breaks, and what rests on that, stands in `proofs/Counting.antt`.
 -- Assumes nothing.
 use Rattle.std.specs.Prelude.{◌≡◌, List, eqb}
 use Rattle.std.proofs.Math.Path.{refl, ap}

@@ -5,6 +5,7 @@
 --   entry-table           entry (i,j) of T_k is t((j-i) mod n, (k-i) mod n)
 --   text_of_conjugate     all conjugates of a normal element have the same text
 --
+-- What of this a wrong definition breaks, and what rests on that, stands in `proofs/Entries.antt`.
 -- Assumes nothing.
 use Rattle.std.specs.Prelude.{◌≡◌}
 use Rattle.std.proofs.Math.Path.{sym, ap}

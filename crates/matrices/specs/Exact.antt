@@ -13,6 +13,7 @@
 --   reading_whole                 and over buffers that the sheet and the text fill
 --
 -- When the two calls are done: `Judging`. Texts that are not right: `Places`.
+-- What of this a wrong definition breaks, and what rests on that, stands in `proofs/Exact.antt`.
 -- Assumes nothing.
 use Rattle.std.specs.Prelude.{◌≡◌, take}
 use Rattle.std.proofs.Math.Path.{refl}

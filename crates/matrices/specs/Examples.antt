@@ -9,6 +9,7 @@
 --
 -- By hand, for 7 and 2: c_0 c_0 is c_1, c_0 c_1 is c_0 + c_1 and c_1 c_1 is c_0. So T_0 has the lines 01 and 11, and T_1 the lines 11 and
 -- 10.
+-- What of this a wrong definition breaks, and what rests on that, stands in `proofs/Examples.antt`.
 -- Assumes nothing.
 use Rattle.std.specs.Prelude.{◌≡◌, refl, List, [], ◌∷◌, ℕ, ◌*◌}
 use Rattle.matrices.specs.Matrices.{matrices_text, text_size}

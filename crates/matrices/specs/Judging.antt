@@ -12,6 +12,7 @@
 --   not_refused                                 done is not refused
 --
 -- What a sheet is that reading accepts: `read-sheet` in `Issuing` of `sheet`. What writing leaves: `Exact`. 14 and its place: `Places`.
+-- What of this a wrong definition breaks, and what rests on that, stands in `proofs/Judging.antt`.
 -- Assumes nothing.
 use Rattle.std.specs.Prelude.{◌≡◌, ◌↔◌, ℕ, ◌*◌, ◌≤◌}
 use Rattle.std.proofs.Math.Path.{refl, ap}

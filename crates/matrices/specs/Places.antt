@@ -7,6 +7,7 @@
 --   extra_refused, beginning_refused, empty_refused   the answers for a text that goes on, one that stops, and none
 --
 -- That the longest common beginning is one of both texts, and none is longer: `CommonLines`.
+-- What of this a wrong definition breaks, and what rests on that, stands in `proofs/Places.antt`.
 -- Assumes nothing.
 use Rattle.std.specs.Prelude.{◌≡◌}
 use Rattle.std.proofs.Math.Path.{refl, sym, ap}

@@ -9,6 +9,7 @@
 --   twice_unique            no other rows are so
 --   turned_text             the text from such rows is that of the definitions
 --
+-- What of this a wrong definition breaks, and what rests on that, stands in `proofs/Turned.antt`.
 -- Assumes nothing.
 use Rattle.std.specs.Prelude.{◌≡◌, length, set, replicate}
 use Rattle.std.proofs.Math.Path.{sym, ap}

@@ -1,6 +1,4 @@
--- Normal coordinates. In order: lists and rows by their entries; what `normal` and `dependency` say. Then, where the conjugates are
--- independent: coordinates are unique, exist for every element, and are rotated by squaring; the inverse rows convert to them, the
--- conjugates back, and each conversion undoes the other.
+-- The laws of `specs/Coordinates.antt` that a wrong definition breaks, and what rests on them. The head there tells of both files.
 -- Assumes nothing.
 use Rattle.std.specs.Prelude.{◌≡◌, ◌↔◌, true, ℕ, ◌^◌, ◌≤◌, ◌<◌}
 use Rattle.std.proofs.Math.Path.{sym}

@@ -1,8 +1,4 @@
--- What each grade means, sentence by sentence (document 02, §3), and that all conjugates of a normal element have the same: a leader's grade is
--- that of its class.
---
---   Says f n a c k   the grade's number k says what §3 has it say, of the element a with complexity c
---
+-- The laws of `specs/Graded.antt` that a wrong definition breaks, and what rests on them. The head there tells of both files.
 -- Assumes nothing.
 use Rattle.std.specs.Prelude.{◌≡◌, ◌⊎◌, true, false, ℕ, ◌+◌, ◌-◌, ◌*◌, ◌^◌, ◌≤◌, ◌<◌, eqb}
 use Rattle.std.proofs.Math.Path.{refl}

@@ -1,9 +1,4 @@
--- The complexity of a normal element from half of its table: row 0 has one 1, and rows i and n - i equally many. In order: rotating
--- keeps the number of ones; the complexity as a sum over rows; half of a sum that reads the same from both ends, turn by turn; the
--- coordinates of a squared element; row 0; rows i and n - i; the complexity, and a lower bound from the rows counted so far.
---
---   halves_to g n k   the sum over i from 1 to k of g i, twice where i is not n - i
---
+-- The laws of `specs/Halves.antt` that a wrong definition breaks, and what rests on them. The head there tells of both files.
 -- Assumes nothing.
 use Rattle.std.specs.Prelude.{◌≡◌, get_or}
 use Rattle.std.proofs.Math.Path.{refl, ap}

@@ -1,11 +1,4 @@
--- The product by turns has the bits of document 01's formula: bit k is the sum modulo 2, over all i and j, of
--- a_i b_j t((j-i) mod n, (k-i) mod n). So the number that the formula gives is the product by turns (`horner-table`), and through the
--- table of a normal element it is the product of elements (`table-product`). Through any rows 0 times a number is 0 (`table_product-zero`).
--- In order: sums modulo 2, over a cycle of indices too; bits of numbers and of sums of rows; the product by turns, bit by bit; document 01's
--- formula.
---
---   xor_sum k g   the exclusive or of g 0 to g (k - 1)
---
+-- The laws of `specs/ProductBits.antt` that a wrong definition breaks, and what rests on them. The head there tells of both files.
 -- Assumes nothing.
 use Rattle.std.specs.Prelude.{◌≡◌, ◌⊎◌, List, [], ◌∷◌, length, get_or}
 use Rattle.std.proofs.Math.Path.{refl, sym, ap, ap₂}

@@ -1,9 +1,4 @@
--- The product of normal coordinates. The rows T are a table of a where row i selects conjugates that sum to a times c_i; through
--- such a table the product of coordinates has the coordinates of the product of elements.
---
---   Table f n a T            T is a table of a
---   horner_product n T k u v  the product by turns, over the lowest k bits of u: the form that code uses
---
+-- The laws of `specs/Products.antt` that a wrong definition breaks, and what rests on them. The head there tells of both files.
 -- Assumes nothing.
 use Rattle.std.specs.Prelude.{◌≡◌, get_or}
 use Rattle.std.proofs.Math.Path.{sym, ap, ap₂}

@@ -1,7 +1,4 @@
--- The power with exponent 2^k-1 (document 02, §1). In order: it satisfies the three sentences of §1 (`power-one`, `power_even`, `power_odd`),
--- and nothing else does (`power_unique`), so that the count of steps in the definition means nothing; one step of the code, from the power for
--- half of k (`power_half_even`, `power_half_odd`); 0 divided is 0 (`quotient-zero`); powers, inverses and quotients are below 2^n (`power-lt`,
--- `inverse-lt`, `quotient-lt`).
+-- The laws of `specs/Recursion.antt` that a wrong definition breaks, and what rests on them. The head there tells of both files.
 -- Assumes nothing.
 use Rattle.std.specs.Prelude.{◌≡◌, List, ℕ, zero, suc, ◌-◌, ◌/◌, ◌%◌, ◌^◌, ◌≤◌, ◌<◌, length, get_or}
 use Rattle.std.proofs.Common.{arith}

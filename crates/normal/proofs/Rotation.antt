@@ -1,8 +1,4 @@
--- Laws of the rotation of n bits, and of the rotation back. In order: what rotating comes to; each undoes the other; bit k of the
--- number rotated is bit k-1 of the number, indices modulo n.
---
---   rotate_back n v   bit i goes to i-1, and bit 0 to n-1
---
+-- The laws of `specs/Rotation.antt` that a wrong definition breaks, and what rests on them. The head there tells of both files.
 -- Assumes nothing.
 use Rattle.std.specs.Prelude.{◌≡◌, ◌⊎◌}
 use Rattle.std.proofs.Common.{sym, ◌∙◌, zero-mul, one-mul, pow-suc, mod-lt, mod-eq_of_lt, div-add-mod', add_comm, mul_assoc, div-one, pow_pos, shr-shr}

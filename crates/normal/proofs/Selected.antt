@@ -1,5 +1,4 @@
--- Sums of conjugates that the bits of a number select: they are the sums of `field`'s ConjugateSums, so linear in the number and in
--- the element; where squaring n times leaves the element, squaring the sum rotates the number.
+-- The laws of `specs/Selected.antt` that a wrong definition breaks, and what rests on them. The head there tells of both files.
 -- Assumes nothing.
 use Rattle.std.specs.Prelude.{◌≡◌}
 use Rattle.std.proofs.Math.Path.{refl, sym, ap}

@@ -1,7 +1,4 @@
--- What powers, inverses and quotients of normal coordinates stand for, through the table of a normal element, over all degrees: the power
--- for k stands for the element's power with exponent 2^k-1 (`power-stands`), the inverse for its power with exponent 2^n-2
--- (`inverse-stands`). Modulo an irreducible f: a number times its inverse is the number with all n bits set (`inverse-times`,
--- `times-inverse`), and the quotient is the only number whose product with the divisor is the dividend (`quotient-times`, `quotient-only`).
+-- The laws of `specs/Standing.antt` that a wrong definition breaks, and what rests on them. The head there tells of both files.
 -- Assumes nothing.
 use Rattle.std.specs.Prelude.{◌≡◌, List}
 use Rattle.std.proofs.Math.Path.{refl, sym, ap}

@@ -1,8 +1,4 @@
--- One turn of each loop over rows and coordinates, as laws on numbers and lists: the list of conjugates, the count of ones,
--- rotations in a row, the product by turns.
---
---   Taken n T a b product turned i   what the loop of a product through the rows T holds, with the bits of a from i upward taken
---
+-- The laws of `specs/Turns.antt` that a wrong definition breaks, and what rests on them. The head there tells of both files.
 -- Assumes nothing.
 use Rattle.std.specs.Prelude.{◌≡◌, List, length, get_or}
 use Rattle.std.proofs.Common.{sym, ap₂, ◌∙◌, div-one, add-zero, zero-mul, mod-lt, mod-eq_of_lt, mul_comm}

@@ -1,6 +1,7 @@
 -- Normal coordinates. In order: lists and rows by their entries; what `normal` and `dependency` say. Then, where the conjugates are
 -- independent: coordinates are unique, exist for every element, and are rotated by squaring; the inverse rows convert to them, the
 -- conjugates back, and each conversion undoes the other.
+-- What of this a wrong definition breaks, and what rests on that, stands in `proofs/Coordinates.antt`.
 -- Assumes nothing.
 use Rattle.std.specs.Prelude.{◌≡◌, refl, Bool, ◌&&◌, List, ◌∷◌, ℕ, zero, suc, ◌^◌, ◌≤◌, ◌<◌, ltb, length, get_or}
 use Rattle.std.proofs.Common.{ap, ap₂, ⊎_elim, not-suc-le-zero, le_of_suc-le-suc, arith, pow_pos}

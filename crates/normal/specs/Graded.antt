@@ -3,6 +3,7 @@
 --
 --   Says f n a c k   the grade's number k says what §3 has it say, of the element a with complexity c
 --
+-- What of this a wrong definition breaks, and what rests on that, stands in `proofs/Graded.antt`.
 -- Assumes nothing.
 use Rattle.std.specs.Prelude.{◌≡◌, ◌↔◌, ℕ, ◌+◌, ◌-◌, ◌*◌, ◌≤◌}
 use Rattle.field.specs.Field.{pow_mod}

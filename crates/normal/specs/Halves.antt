@@ -4,6 +4,7 @@
 --
 --   halves_to g n k   the sum over i from 1 to k of g i, twice where i is not n - i
 --
+-- What of this a wrong definition breaks, and what rests on that, stands in `proofs/Halves.antt`.
 -- Assumes nothing.
 use Rattle.std.specs.Prelude.{◌≡◌, cond, List, [], ◌∷◌, length, get_or}
 use Rattle.std.proofs.Math.Path.{refl, ap}

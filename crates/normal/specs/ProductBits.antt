@@ -6,6 +6,7 @@
 --
 --   xor_sum k g   the exclusive or of g 0 to g (k - 1)
 --
+-- What of this a wrong definition breaks, and what rests on that, stands in `proofs/ProductBits.antt`.
 -- Assumes nothing.
 use Rattle.std.specs.Prelude.{◌≡◌}
 use Rattle.std.proofs.Math.Path.{refl, sym, ap, ap₂}

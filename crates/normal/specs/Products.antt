@@ -4,6 +4,7 @@
 --   Table f n a T            T is a table of a
 --   horner_product n T k u v  the product by turns, over the lowest k bits of u: the form that code uses
 --
+-- What of this a wrong definition breaks, and what rests on that, stands in `proofs/Products.antt`.
 -- Assumes nothing.
 use Rattle.std.specs.Prelude.{◌≡◌, length, get_or}
 use mathlib.Core.List.{List}

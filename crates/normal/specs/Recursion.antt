@@ -2,6 +2,7 @@
 -- and nothing else does (`power_unique`), so that the count of steps in the definition means nothing; one step of the code, from the power for
 -- half of k (`power_half_even`, `power_half_odd`); 0 divided is 0 (`quotient-zero`); powers, inverses and quotients are below 2^n (`power-lt`,
 -- `inverse-lt`, `quotient-lt`).
+-- What of this a wrong definition breaks, and what rests on that, stands in `proofs/Recursion.antt`.
 -- Assumes nothing.
 use Rattle.std.specs.Prelude.{◌≡◌, List, ℕ, zero, suc, ◌-◌, ◌*◌, ◌/◌, ◌%◌, ◌≤◌, ◌<◌}
 use Rattle.std.proofs.Math.Path.{refl, ap}

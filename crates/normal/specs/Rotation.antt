@@ -3,6 +3,7 @@
 --
 --   rotate_back n v   bit i goes to i-1, and bit 0 to n-1
 --
+-- What of this a wrong definition breaks, and what rests on that, stands in `proofs/Rotation.antt`.
 -- Assumes nothing.
 use Prim.Native.Nat.{ℕ, ◌+◌, ◌-◌, ◌*◌, ◌/◌, ◌%◌, ◌^◌}
 

@@ -1,5 +1,6 @@
 -- Sums of conjugates that the bits of a number select: they are the sums of `field`'s ConjugateSums, so linear in the number and in
 -- the element; where squaring n times leaves the element, squaring the sum rotates the number.
+-- What of this a wrong definition breaks, and what rests on that, stands in `proofs/Selected.antt`.
 -- Assumes nothing.
 use Rattle.std.specs.Prelude.{◌≡◌, length, get_or}
 use Rattle.std.proofs.Math.Path.{refl, ap}

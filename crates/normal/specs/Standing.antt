@@ -2,6 +2,7 @@
 -- for k stands for the element's power with exponent 2^k-1 (`power-stands`), the inverse for its power with exponent 2^n-2
 -- (`inverse-stands`). Modulo an irreducible f: a number times its inverse is the number with all n bits set (`inverse-times`,
 -- `times-inverse`), and the quotient is the only number whose product with the divisor is the dividend (`quotient-times`, `quotient-only`).
+-- What of this a wrong definition breaks, and what rests on that, stands in `proofs/Standing.antt`.
 -- Assumes nothing.
 use Rattle.std.specs.Prelude.{◌≡◌}
 use Rattle.std.proofs.Math.Path.{sym, ap}

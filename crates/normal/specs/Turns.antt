@@ -3,6 +3,7 @@
 --
 --   Taken n T a b product turned i   what the loop of a product through the rows T holds, with the bits of a from i upward taken
 --
+-- What of this a wrong definition breaks, and what rests on that, stands in `proofs/Turns.antt`.
 -- Assumes nothing.
 use Rattle.std.specs.Prelude.{◌≡◌, List, [], ◌∷◌, ◌++◌, length, get_or, take}
 use Rattle.std.proofs.Common.{sym, ◌∙◌, add-zero, zero-add, add_assoc, add-one, ext_get_or, take-suc}

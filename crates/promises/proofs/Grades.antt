@@ -1,14 +1,4 @@
--- The grade follows the element (document 02, §3), sentence by sentence, through the answers of the public calls. `Says f n a c k` (in `Graded` of
--- `normal`) has the sentences: what the grade's number k says of the element a of degree n with complexity c. That the calls give these answers:
--- `Demand1`. The rest of demand 3 stands as it was: `Demand3`.
---
---   build_grades, read_grades, listing_grades, search_grades   "Found records, build, reading and listings follow": each has the complexity and
---                                                              the grade of its own element, for all inputs
---   class_answer                                               build answers the same for all conjugates of a normal element
---   found_for_class                                            what a found record has, build answers for every element of the class
---   ..-runs                                                    of the calls themselves: of every run of them
---
--- That a run of `listing` leaves the listing: `listing_is` in `Demand1`. The C functions return the numbers of the same answers: `Exports`.
+-- The laws of `specs/Grades.antt` that a wrong definition breaks, and what rests on them. The head there tells of both files.
 -- Assumes nothing.
 use Rattle.std.specs.Prelude.{◌≡◌}
 use Rattle.std.proofs.Math.Path.{sym}

@@ -1,14 +1,4 @@
--- Demands 2 and 3 of the calls themselves: of whatever a promise permits a call to return and to leave (`Run`, in `Calls`). Each theorem is
--- one of `Demand2` or `Demand3`, carried over by `Demand1`.
---
---   check_accepts_exactly                                    what check accepts
---   build_issues_exactly, build-refuses_else, build_writes   a sheet is issued exactly when it is due, and where it then stands
---   read_accepts, read_gives                                 what reading accepts
---   returns-remainder, returns-element, returns-coordinates  there with one call and back with the other
---   multiplied-through                                       the product through the table against that of `multiply`
---   list-..-each, lists-return-..                            lists, value by value and there and back
---   search-names, search-names-none, search_in_parts         the search
---
+-- The laws of `specs/Performed.antt` that a wrong definition breaks, and what rests on them. The head there tells of both files.
 -- Assumes nothing.
 use Rattle.std.specs.Prelude.{◌≡◌, ◌↔◌, List, map, ℕ, ◌^◌, ◌<◌, length, get_or}
 use Rattle.std.proofs.Common.{sym, ap₂, ◌∙◌}

@@ -1,10 +1,5 @@
--- Demand 1, what a refused call leaves and gives (document 01, "Refusal numbers"), over every run of a call that can refuse.
---
---   ..Told, ..-told   what a run answers: done is 0 with place 0, and 0 exactly if done; a number that is given stands in the call's order
---                     with its place (`Listed`), and its condition is the first that applies; a refusal's other values are zero
---   ..-unchanged      "every lent buffer and list stays as it came"
---
--- `Told` stands in `refusals`; the exports in `RefusedExports`. Assumes nothing.
+-- The laws of `specs/Refused.antt` that a wrong definition breaks, and what rests on them. The head there tells of both files.
+-- Assumes nothing.
 use Rattle.sheet.specs.Record.{record_count}
 use Rattle.sheet.specs.Orders.{read_order, normal_order}
 use Rattle.sheet.specs.Listed.{OnShape, OnReading}

@@ -1,10 +1,4 @@
--- Elements that arrive unreduced (document 02, §6), through the answers of the public calls, for every input. The return trip from the
--- polynomial side stands in `Demand2` (`there_and_back`, `lists_there-and-back`); that elements get what they got before, in `Kept`.
---
---   multiply_remainders, square-remainder, trace-remainder   "take any 64-bit operand and answer for its remainder modulo f"
---   normal-remainder, list_remainders                        "conversion from polynomial notation, single or list, does likewise"
---   ..-runs                                                  the same of every two runs of a call
---
+-- The laws of `specs/Unreduced.antt` that a wrong definition breaks, and what rests on them. The head there tells of both files.
 -- Assumes nothing.
 use Rattle.std.specs.Prelude.{◌≡◌}
 use Rattle.std.proofs.Math.Path.{sym}

@@ -6,7 +6,7 @@
 --   why-zero_runs                     all is zero where reading accepts
 --   second-line, shape-one-line       the lister's text: the line of the refusal, and the cause's line after it; 7, 8 and 9 have none
 --   divisor-line, became_line, dependency-line, difference_line   the whole text for 2, 3, 5 and 10
---   ..-runs                           of the calls themselves, for every run of them
+--   .._runs                           of the calls themselves, for every run of them
 --
 -- Assumes nothing.
 use Rattle.std.specs.Prelude.{◌≡◌, refl, List, ◌++◌, ℕ, ◌≤◌, drop}

@@ -1,12 +1,13 @@
 -- Demand 1 (document 01, "Strength of each call"): the promise of a public call determines its result and the final state of all it was
 -- lent. For each of the twenty calls two theorems over the promise as the checker itself reads it, for all arguments:
 --
---   ..-is           a run returns the call's answer, as a function of its arguments, and leaves in lent memory what the same function says
---   ..-determined   any two results, and any two final states of lent memory, that the promise permits are equal
+--   .._is           a run returns the call's answer, as a function of its arguments, and leaves in lent memory what the same function says
+--   .._determined   any two results, and any two final states of lent memory, that the promise permits are equal
 --
 -- So whatever `Demand2`, `Demand3`, `Division`, `Matrices` and `Causes` say of an answer they say of the call. In order: check, multiply,
 -- square, trace; build, read; why, why_check, why_build; to_polynomial, to_normal, times, inverse, quotient; list_to_polynomial,
 -- list_to_normal; write_matrices, read_matrices; search; listing. What is refused: `Refused`.
+-- What of this a wrong definition breaks, and what rests on that, stands in `proofs/Demand1.antt`.
 -- Assumes nothing.
 use Rattle.std.specs.Prelude.{◌≡◌, ◌++◌, length, drop}
 use Rattle.std.proofs.Common.{sym, ◌∙◌}

@@ -9,8 +9,8 @@
 --   accepted-inverts, -divides   both for a sheet that reading accepts
 --   quotient_is_product          "a quotient is the dividend times the inverse", on any sheet
 --   zero-divided                 0 divided by a number is 0, on any sheet
---   ..-same-steps                "On other well-shaped sheets the same steps give the answer."
---   ..-zero-exactly, ..-earlier  13 exactly for a number to invert, or a divisor, that is zero, "after 4"
+--   ..-same_steps                "On other well-shaped sheets the same steps give the answer."
+--   ..-zero_exactly, .._earlier  13 exactly for a number to invert, or a divisor, that is zero, "after 4"
 --   inverted_runs, divided_runs  `inverts` and `divides` of the calls themselves: of every run of them (`InverseRun`, `QuotientRun`)
 --
 -- Assumes nothing.

@@ -6,9 +6,10 @@
 --                                                              the grade of its own element, for all inputs
 --   class_answer                                               build answers the same for all conjugates of a normal element
 --   found_for_class                                            what a found record has, build answers for every element of the class
---   ..-runs                                                    of the calls themselves: of every run of them
+--   .._runs                                                    of the calls themselves: of every run of them
 --
 -- That a run of `listing` leaves the listing: `listing_is` in `Demand1`. The C functions return the numbers of the same answers: `Exports`.
+-- What of this a wrong definition breaks, and what rests on that, stands in `proofs/Grades.antt`.
 -- Assumes nothing.
 use Rattle.std.specs.Prelude.{◌≡◌, refl, true, List, ◌++◌, ℕ, ◌*◌, ◌^◌, ◌≤◌, ◌<◌, length}
 use Rattle.std.proofs.Math.Path.{sym, ap}

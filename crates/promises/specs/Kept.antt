@@ -1,9 +1,9 @@
 -- What §6 of document 02 left as it was: a word that is an element gets the answer that it got before, and so does every other, but where
 -- it was refused with 4. The answers of before stand here as definitions of their own, so that a reader can compare.
 --
---   ..Before    what a call answered when 4 stood in its order
+--   .._before   what a call answered when 4 stood in its order
 --   ..-kept     an operand that is an element gets what it got before
---   ..-changed  whatever is answered otherwise was refused with 4
+--   .._changed  whatever is answered otherwise was refused with 4
 --
 -- Assumes nothing.
 use Rattle.std.specs.Prelude.{◌≡◌, ◌⊎◌, true, false, ℕ, ◌^◌, ◌≤◌, ◌<◌, length, get_or}

@@ -3,8 +3,8 @@
 --
 --   OnShape, OnValue, OnDivision, OnWords, OnList, OnReading, OnWritingText   the numbers and places of the calls on a sheet of m records
 --   OnReadingText                                            those of reading a text of the matrices, for f of degree n
---   ..-listed, ..-positive                            an order has these, and none of the numbers is 0
---   field_orders, ..-sequence                         the numbers of an order, one after another, are those that the documents list
+--     ..listed, ..positive                            an order has these, and none of the numbers is 0
+--   field_orders, .._sequence                         the numbers of an order, one after another, are those that the documents list
 --
 -- Assumes nothing.
 use Rattle.std.specs.Prelude.{◌≡◌, refl, ◌⊎◌, List, [], ◌∷◌, ◌++◌, ℕ, zero, suc, ◌+◌, ◌≤◌, ◌<◌, length, replicate}

@@ -11,7 +11,7 @@
 --   as_build, refused_as_build, written_as_build   "answering as build does"
 --   placed_exactly           "14, text does not match, place the first wrong, missing or extra line counted from 0"
 --   shared_beginning         that place counts the bytes 10 of the longest beginning that the two texts share
---   ..-runs                  of the calls themselves, for every run of them: what writing leaves, its ones, that it is read back, what
+--   .._runs                  of the calls themselves, for every run of them: what writing leaves, its ones, that it is read back, what
 --                            reading accepts, and where it places 14
 --
 -- Assumes nothing.

@@ -6,9 +6,10 @@
 --   read_accepts, read_gives                                 what reading accepts
 --   returns-remainder, returns-element, returns-coordinates  there with one call and back with the other
 --   multiplied-through                                       the product through the table against that of `multiply`
---   list-..-each, lists-return-..                            lists, value by value and there and back
+--   list-..-each, lists_return_..                            lists, value by value and there and back
 --   search-names, search-names-none, search_in_parts         the search
 --
+-- What of this a wrong definition breaks, and what rests on that, stands in `proofs/Performed.antt`.
 -- Assumes nothing.
 use Rattle.std.specs.Prelude.{◌≡◌, ◌↔◌, true, List, ◌++◌, ℕ, suc, ◌*◌, ◌-◌, ◌^◌, ◌≤◌, ◌<◌, length, get_or, drop, take}
 use Rattle.std.proofs.Common.{sym, ap₂, ◌∙◌}

@@ -1,10 +1,12 @@
 -- Demand 1, what a refused call leaves and gives (document 01, "Refusal numbers"), over every run of a call that can refuse.
 --
---   ..Told, ..-told   what a run answers: done is 0 with place 0, and 0 exactly if done; a number that is given stands in the call's order
+--   ..Told, .._told   what a run answers: done is 0 with place 0, and 0 exactly if done; a number that is given stands in the call's order
 --                     with its place (`Listed`), and its condition is the first that applies; a refusal's other values are zero
---   ..-unchanged      "every lent buffer and list stays as it came"
+--   .._unchanged      "every lent buffer and list stays as it came"
 --
--- `Told` stands in `refusals`; the exports in `RefusedExports`. Assumes nothing.
+-- `Told` stands in `refusals`; the exports in `RefusedExports`.
+-- What of this a wrong definition breaks, and what rests on that, stands in `proofs/Refused.antt`.
+-- Assumes nothing.
 use Rattle.std.specs.Prelude.{◌≡◌, ◌↔◌, true, List, [], ◌∷◌, ℕ, ◌<◌, length}
 use Rattle.std.proofs.Math.Path.{refl}
 use Rattle.std.proofs.Common.{sym, ◌∙◌, arith}

@@ -3,8 +3,9 @@
 --
 --   multiply_remainders, square-remainder, trace-remainder   "take any 64-bit operand and answer for its remainder modulo f"
 --   normal-remainder, list_remainders                        "conversion from polynomial notation, single or list, does likewise"
---   ..-runs                                                  the same of every two runs of a call
+--   .._runs                                                  the same of every two runs of a call
 --
+-- What of this a wrong definition breaks, and what rests on that, stands in `proofs/Unreduced.antt`.
 -- Assumes nothing.
 use Rattle.std.specs.Prelude.{◌≡◌, ◌⊎◌, true, false, ℕ, length, get_or}
 use Rattle.std.proofs.Math.Path.{refl, sym, ap, ap₂}

@@ -1,2 +1,2 @@
-// The demands on the desk, as theorems over the promises of its calls: see specs/.
+// The demands on the desk, as theorems over the promises of its calls: see specs/ and proofs/.
 #![tactic(auto)]

@@ -1,11 +1,11 @@
 -- A call that hands out the number and the place of its order's verdict, and zeros where that refuses, keeps what `Told` says.
 --
 --   first_found, found_first    a verdict refuses with the number and the place of the first rule that applies
---   every-..                    what holds of every rule of an order holds of the one that is found
+--   every_..                    what holds of every rule of an order holds of the one that is found
 --   part_passed                 an order in two parts: a refusal that the first part does not have
 --   Lacks k rs, absent_lacks    k is no number of the order rs; the same by a test, `absent`
 --   rule-applies                a number that an order has once
---   listed-at-zero, ..-positive   the numbers of an order are its own, and none of them is 0
+--    listed-at-zero, ..positive   the numbers of an order are its own, and none of them is 0
 --   told                        a call, by the number, the place and the values that it hands out
 --   report_told, value_told, checked_told   the same for a report, and for the two enums of this crate
 --

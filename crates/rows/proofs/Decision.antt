@@ -1,5 +1,4 @@
--- A matrix has an inverse or a dependency: the insertion, carried out in the laws. So its rows are independent exactly if it
--- has an inverse, and an inverse on the right is one on the left too. `independent-means`: the test of independence says what it should.
+-- The laws of `specs/Decision.antt` that a wrong definition breaks, and what rests on them. The head there tells of both files.
 -- Assumes nothing.
 use Rattle.std.specs.Prelude.{◌≡◌, refl, ◌⊎◌, ◌↔◌, List, ℕ, zero, suc, ◌+◌, ◌^◌, ◌≤◌, ◌<◌, set, get_or, replicate}
 use Rattle.std.proofs.Common.{sym, ap, ◌∙◌, inl, inr, ⊎_elim, le_refl, add-one, arith}

@@ -1,12 +1,4 @@
--- Inversion by insertion: the rows of C are taken in order from 0. A row is reduced by the rows taken so far; what is left of it
--- either is zero, and names a dependency, or has a set bit, which becomes its pivot, and goes in at the place of the pivot's
--- column. Each reduced row is kept with its name, the number whose bits pick the rows of C that sum to it.
---
---   Inserted C n k a b p    k rows of C are in: a has the reduced rows, b their names, p the columns of the pivots
---   Reduced C n k b p x t   x, with the name t, is what is left of row k of C
---
--- In order: the pivot; the start; sums of what is in; a row is reduced; what is left is zero.
--- Not here: what is left goes in, and the end (`Placing`).
+-- The laws of `specs/Insertion.antt` that a wrong definition breaks, and what rests on them. The head there tells of both files.
 -- Assumes nothing.
 use Rattle.std.specs.Prelude.{◌≡◌, ◌⊎◌, List, ℕ, ◌+◌, ◌-◌, ◌*◌, ◌^◌, ◌≤◌, ◌<◌, get_or}
 use Rattle.std.proofs.Common.{sym, ap, ap₂, ◌∙◌, inl, inr, ⊎_elim, zero-mul, one-mul, arith, pow_pos, pow_mono}

@@ -1,8 +1,4 @@
--- Laws of independent rows, of inverses and of dependencies. In order: different numbers pick different sums of independent
--- rows; the inverse undoes the sums, both ways round; a matrix with an inverse is independent, and it has no other; a
--- dependency is one number, and denies independence; the answer of inversion is unique, has the
--- inverse or the dependency, and says whether the rows are independent.
--- Not here: that independent rows have an inverse (`Decision`).
+-- The laws of `specs/Inverses.antt` that a wrong definition breaks, and what rests on them. The head there tells of both files.
 -- Assumes nothing.
 use Rattle.std.specs.Prelude.{◌≡◌, refl, ◌↔◌, Bool, true, false, List, ℕ, ◌^◌, ◌≤◌, ◌<◌, length, get_or}
 use Rattle.std.proofs.Common.{sym, ap, ◌∙◌, ⊎_elim, arith, ext_get_or}

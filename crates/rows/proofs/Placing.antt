@@ -1,7 +1,4 @@
--- Inversion by insertion, what is left of a row goes in: its pivot's column is cleared in the rows that are in, their names
--- follow, and it is put at the place of that column. After n rows the names are the inverse.
---
--- In order: the pivots' columns before and after; the row goes in (`row_inserted`); a turn of the loop; the end.
+-- The laws of `specs/Placing.antt` that a wrong definition breaks, and what rests on them. The head there tells of both files.
 -- Assumes nothing.
 use Rattle.std.specs.Prelude.{◌≡◌, List, ℕ, ◌+◌, ◌-◌, ◌*◌, ◌^◌, ◌≤◌, ◌<◌, length, set, get_or}
 use Rattle.std.proofs.Common.{sym, ap, ap₂, ◌∙◌, ⊎_elim, zero-mul, one-mul, arith, pow_pos, pow_mono}

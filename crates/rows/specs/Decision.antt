@@ -1,5 +1,6 @@
 -- A matrix has an inverse or a dependency: the insertion, carried out in the laws. So its rows are independent exactly if it
 -- has an inverse, and an inverse on the right is one on the left too. `independent-means`: the test of independence says what it should.
+-- What of this a wrong definition breaks, and what rests on that, stands in `proofs/Decision.antt`.
 -- Assumes nothing.
 use Rattle.std.specs.Prelude.{◌≡◌, ◌↔◌, Bool, true, ◌&&◌, List, ℕ, ◌^◌, ltb, eqb, length}
 use Rattle.std.proofs.Common.{lt-ltb, ltb-true, eq-eqb, eqb-true}

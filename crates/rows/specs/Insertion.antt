@@ -7,6 +7,7 @@
 --
 -- In order: the pivot; the start; sums of what is in; a row is reduced; what is left is zero.
 -- Not here: what is left goes in, and the end (`Placing`).
+-- What of this a wrong definition breaks, and what rests on that, stands in `proofs/Insertion.antt`.
 -- Assumes nothing.
 use Rattle.std.specs.Prelude.{◌≡◌, List, ℕ, ◌*◌, ◌^◌, ◌≤◌, ◌<◌, get_or, replicate}
 use Rattle.std.proofs.Common.{sym, ap, ◌∙◌, arith, pow_pos, pow_mono}

@@ -3,6 +3,7 @@
 -- dependency is one number, and denies independence; the answer of inversion is unique, has the
 -- inverse or the dependency, and says whether the rows are independent.
 -- Not here: that independent rows have an inverse (`Decision`).
+-- What of this a wrong definition breaks, and what rests on that, stands in `proofs/Inverses.antt`.
 -- Assumes nothing.
 use Rattle.std.specs.Prelude.{◌≡◌, refl, Bool, true, false, List, ℕ, ◌^◌, ◌≤◌, ◌<◌, length, get_or}
 use Rattle.std.proofs.Common.{ap, ◌∙◌, ⊎_elim, arith}

@@ -2,6 +2,7 @@
 -- follow, and it is put at the place of that column. After n rows the names are the inverse.
 --
 -- In order: the pivots' columns before and after; the row goes in (`row_inserted`); a turn of the loop; the end.
+-- What of this a wrong definition breaks, and what rests on that, stands in `proofs/Placing.antt`.
 -- Assumes nothing.
 use Rattle.std.specs.Prelude.{◌≡◌, ℕ, ◌*◌, ◌^◌}
 use Rattle.std.proofs.Common.{ap, ap₂, ◌∙◌, zero-mul, one-mul}

@@ -1,13 +1,4 @@
--- The walk over a range in two parts: up to the first normal leader, and on from it, joined to what is held from before. Both parts go from one
--- leader of trace 1 to the next.
---
---   RangeOf f n first last         f is accepted, of degree n, and first to last is a range of its elements
---   PartOf n next last             next to last is what is left of a range of elements; nothing, where next is the number after last
---   trace_leader f n a              a is a leader of trace 1
---   FirstFrom f n t first last r   r is the first from first to last that passes t, or the number after last where there is none; no normal leader
---                                  stands before it
---
--- In order: leaders of trace 1; elements that add nothing; up to the first; on from there, turn by turn, with the bound that the turns need.
+-- The laws of `specs/Begun.antt` that a wrong definition breaks, and what rests on them. The head there tells of both files.
 -- Assumes nothing.
 use Rattle.std.specs.Prelude.{◌≡◌, Bool, false}
 use Rattle.std.proofs.Common.{sym, ◌∙◌, arith}

@@ -1,7 +1,4 @@
--- Laws of joining: which of two found records is kept; nothing joined on either side changes nothing; joining associates; counts add.
---
---   before y x   the found record y comes before x
---
+-- The laws of `specs/Joined.antt` that a wrong definition breaks, and what rests on them. The head there tells of both files.
 -- Assumes nothing.
 use Rattle.std.specs.Prelude.{◌≡◌, refl, ◌⊎◌, Bool, true, false, ℕ, ◌+◌, ◌≤◌, ◌<◌}
 use Rattle.std.proofs.Common.{sym, ap, ◌∙◌, inl, inr, ⊎_elim, add_assoc, add-zero, zero-add, arith}

@@ -1,11 +1,4 @@
--- One leader joined to what is held, as far as it is decided: its count of ones has to be exact only up to a bound that what is held gives.
---
---   unbounded                the largest number of 32 bits, which no count passes
---   bound_of w                how many ones a table may have and still be the best beside w
---   Joinable f n w a x       a is a leader of which x is decided, as far as joining it to w needs, and one more can be counted
---
--- In order: a record with an inexact count is kept or not as the exact one would be; a found record joined, case by case; the found
--- record of an element, and when it is a new best; the leader that is joined.
+-- The laws of `specs/Joining.antt` that a wrong definition breaks, and what rests on them. The head there tells of both files.
 -- Assumes nothing.
 use Rattle.std.specs.Prelude.{◌≡◌, true, false, ℕ, ◌+◌}
 use Rattle.std.proofs.Math.Path.{refl}

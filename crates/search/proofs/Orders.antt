@@ -1,5 +1,4 @@
--- Laws of the search's order: what a path through its conditions finds, what it leaves where none of them applies, and how that gives the
--- answer with its numbers. What the call answers for an accepted f and over adjoining ranges: `Searched`.
+-- The laws of `specs/Orders.antt` that a wrong definition breaks, and what rests on them. The head there tells of both files.
 -- Assumes nothing.
 use Rattle.std.specs.Prelude.{◌≡◌, refl, true, false, ◌||◌, [], ◌∷◌, ℕ, ◌≤◌, ◌<◌}
 use Rattle.std.proofs.Common.{◌∙◌, lt-ltb, le-ltb, ltb-false}

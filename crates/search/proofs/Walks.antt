@@ -1,5 +1,4 @@
--- The walk over a range: one element, the walk by turns, how it is cut anywhere, and its count, which is that of all normal leaders
--- there. What it names: `Named`.
+-- The laws of `specs/Walks.antt` that a wrong definition breaks, and what rests on them. The head there tells of both files.
 -- Assumes nothing.
 use Rattle.std.specs.Prelude.{◌≡◌}
 use Rattle.std.proofs.Math.Path.{refl, ap₂}

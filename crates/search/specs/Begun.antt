@@ -8,6 +8,7 @@
 --                                  stands before it
 --
 -- In order: leaders of trace 1; elements that add nothing; up to the first; on from there, turn by turn, with the bound that the turns need.
+-- What of this a wrong definition breaks, and what rests on that, stands in `proofs/Begun.antt`.
 -- Assumes nothing.
 use Rattle.std.specs.Prelude.{◌≡◌, Bool, true, false, ◌&&◌, eqb}
 use Rattle.std.proofs.Common.{◌∙◌, ⊎_elim, arith}

@@ -2,6 +2,7 @@
 --
 --   before y x   the found record y comes before x
 --
+-- What of this a wrong definition breaks, and what rests on that, stands in `proofs/Joined.antt`.
 -- Assumes nothing.
 use Rattle.std.specs.Prelude.{◌≡◌, refl, ◌⊎◌, Bool, false, ◌+◌, ◌≤◌, ◌<◌}
 use Rattle.std.proofs.Common.{ap, ⊎_elim, arith}

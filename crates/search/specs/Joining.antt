@@ -6,6 +6,7 @@
 --
 -- In order: a record with an inexact count is kept or not as the exact one would be; a found record joined, case by case; the found
 -- record of an element, and when it is a new best; the leader that is joined.
+-- What of this a wrong definition breaks, and what rests on that, stands in `proofs/JoiningLaws.antt`.
 -- Assumes nothing.
 use Rattle.std.specs.Prelude.{◌≡◌, true, false, ℕ, ◌+◌, ◌^◌, ◌≤◌, ◌<◌}
 use Rattle.std.proofs.Math.Path.{refl, sym, ap}

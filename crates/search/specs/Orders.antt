@@ -1,5 +1,6 @@
 -- Laws of the search's order: what a path through its conditions finds, what it leaves where none of them applies, and how that gives the
 -- answer with its numbers. What the call answers for an accepted f and over adjoining ranges: `Searched`.
+-- What of this a wrong definition breaks, and what rests on that, stands in `proofs/Orders.antt`.
 -- Assumes nothing.
 use Rattle.std.specs.Prelude.{◌≡◌, refl, false, ℕ}
 use Rattle.std.proofs.Common.{ap, ◌∙◌}

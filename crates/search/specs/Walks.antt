@@ -1,5 +1,6 @@
 -- The walk over a range: one element, the walk by turns, how it is cut anywhere, and its count, which is that of all normal leaders
 -- there. What it names: `Named`.
+-- What of this a wrong definition breaks, and what rests on that, stands in `proofs/Walks.antt`.
 -- Assumes nothing.
 use Rattle.std.specs.Prelude.{◌≡◌, true, false, cond}
 use Rattle.std.proofs.Common.{le_refl, arith}

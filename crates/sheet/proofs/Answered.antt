@@ -1,5 +1,4 @@
--- The answers of build and reading, by their verdict: what both clauses of a promise say follows from the first, and what a done
--- answer says of a sheet.
+-- The laws of `specs/Answered.antt` that a wrong definition breaks, and what rests on them. The head there tells of both files.
 -- Assumes nothing.
 use Rattle.std.specs.Prelude.{◌≡◌, List, ℕ}
 use Rattle.refusals.specs.Verdicts.{first_of}

@@ -1,4 +1,4 @@
--- What a sheet of good shape has: its size, its places, and numbers below 2 ^ n.
+-- The laws of `specs/Clear.antt` that a wrong definition breaks, and what rests on them. The head there tells of both files.
 -- Assumes nothing.
 use Rattle.std.specs.Prelude.{◌≡◌, false, List}
 use Rattle.std.proofs.Common.{⊎_elim, zero-add, arith}

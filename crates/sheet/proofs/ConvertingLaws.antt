@@ -1,4 +1,4 @@
--- Laws of the orders of converting and multiplying: what they leave of the sheet and of the values where no condition applies.
+-- The laws of `specs/Converting.antt` that a wrong definition breaks, and what rests on them. The head there tells of both files.
 -- Assumes nothing.
 use Rattle.std.specs.Prelude.{◌≡◌, false, List, [], ◌∷◌, ℕ, ◌^◌, ◌<◌}
 use Rattle.std.proofs.Common.{◌∙◌}

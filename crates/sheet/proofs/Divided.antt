@@ -1,16 +1,4 @@
--- What is divided through the sheet of f and a (document 02, §1): powers, inverses and quotients of coordinates are those of the elements
--- that they stand for, and no call refuses numbers below 2^n but for a divisor that is 0. On any sheet of good shape: when 13 is given, when
--- the calls are done, and that a quotient is a product with the inverse.
---
---   inverse_earlier, inverse_of_zero, inverse_steps     any sheet: an earlier refusal; 13; else the call is done. The same for a quotient
---   zero-quotient, quotient-through                     any sheet: 0 divided is 0; a quotient is the dividend times the inverse
---   inverse_answered, quotient_answered                 the calls
---   power_below, inverse-below, quotient-below          what they give is below 2^n
---   power-element, inverse-element                      what powers and inverses stand for
---   one_below, one-element                              the number with all n bits set, which stands for 1
---   inverse-product, product-inverse                    it is a number times its inverse, either way round
---   quotient-product, quotient-alone                    quotient times divisor is the dividend, and no other number times it is
---
+-- The laws of `specs/Divided.antt` that a wrong definition breaks, and what rests on them. The head there tells of both files.
 -- Assumes nothing.
 use Rattle.std.specs.Prelude.{◌≡◌, List, [], ◌∷◌}
 use Rattle.std.proofs.Math.Path.{ap}

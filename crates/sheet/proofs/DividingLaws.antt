@@ -1,5 +1,4 @@
--- Laws of the orders of dividing: when 13 is given; a number to invert is judged as if it were divided by itself; what the orders leave of
--- the sheet and of the numbers where no condition applies.
+-- The laws of `specs/Dividing.antt` that a wrong definition breaks, and what rests on them. The head there tells of both files.
 -- Assumes nothing.
 use Rattle.std.specs.Prelude.{◌≡◌, List, [], ◌∷◌, ℕ, ◌^◌, ◌<◌}
 use Rattle.std.proofs.Common.{sym, ap, ◌∙◌}

@@ -3,7 +3,7 @@
 --
 --   build_answered, answered_based, build-buffer   build: its answer, what a done answer says, and the lent buffer
 --   read_answered, answered_sheet                  reading: the same
---   polynomial_answered, normal_answered, times_answered, list-..-answered   the calls on the sheet
+--   polynomial_answered, normal_answered, times_answered, list-.._answered   the calls on the sheet
 --   list-normal, list-polynomial                   the lent list
 --
 -- Assumes nothing.

@@ -1,9 +1,4 @@
--- The numbers and the places that the shape of a sheet and reading have for what they refuse, for a sheet of m records (document 01,
--- "Refusal numbers"): a record's number is its place.
---
---   OnShape, OnReading                      these numbers, each with its places
---   shape-listed, basis_listed, differ-listed, read-listed   every rule of the order, or of a part of it, has such a number and place
---
+-- The laws of `specs/Listed.antt` that a wrong definition breaks, and what rests on them. The head there tells of both files.
 -- Assumes nothing.
 use Rattle.std.specs.Prelude.{refl, List, [], ◌∷◌, ◌++◌, ℕ, zero, suc, ◌+◌, ◌≤◌}
 use Rattle.std.proofs.Common.{inl, inr, arith}

@@ -1,7 +1,4 @@
--- Converting lists: condition 11; the first value that is too large decides condition 4; a list is filled value by value.
---
---   first_large_lem n i values   the index of the first value that is 2 ^ n or more, counted from i; past the last where there is none
---
+-- The laws of `specs/Lists.antt` that a wrong definition breaks, and what rests on them. The head there tells of both files.
 -- Assumes nothing.
 use Rattle.std.specs.Prelude.{◌≡◌, not, List, [], ◌∷◌, ℕ, ltb, eqb, length}
 use Rattle.std.proofs.Common.{ltb-false, eqb-true}

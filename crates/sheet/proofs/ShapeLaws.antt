@@ -1,4 +1,4 @@
--- Laws of the shape conditions: what each test of the code gives, the walk over the records, and what a clear shape leaves.
+-- The laws of `specs/Shape.antt` that a wrong definition breaks, and what rests on them. The head there tells of both files.
 -- Assumes nothing.
 use Rattle.std.specs.Prelude.{◌≡◌, true, false, List, ℕ, suc, ◌+◌, ◌-◌, ◌<◌}
 use Rattle.std.proofs.Common.{ap, arith}

@@ -1,10 +1,4 @@
--- What is computed through the sheet of f and a: its conversions undo each other, up to the remainder of a word; its product is that of the
--- elements; and no call on it refuses a value below 2^n, or a list of words.
---
---   values-clear, list-clear, coordinates-clear   the orders of the calls on it
---   element_of, coordinates_of    what a conversion gives: `..-lt` below 2^n; `back-there` gives back, `there_back` gives the remainder
---   product_lt, product_of        the product through its table
---
+-- The laws of `specs/Through.antt` that a wrong definition breaks, and what rests on them. The head there tells of both files.
 -- Assumes nothing.
 use Rattle.std.specs.Prelude.{◌≡◌, refl, false, ℕ, ◌^◌, ◌≤◌, ◌<◌, length}
 use Rattle.std.proofs.Math.Path.{ap, ap₂}

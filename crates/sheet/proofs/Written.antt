@@ -1,5 +1,4 @@
--- The sheet of f and a normal element: its shape is clear, its rows are those of the definitions, it is rebuilt as itself; and a sheet
--- that reading finds nothing wrong with is such a sheet.
+-- The laws of `specs/Written.antt` that a wrong definition breaks, and what rests on them. The head there tells of both files.
 -- Assumes nothing.
 use Rattle.std.specs.Prelude.{◌≡◌, false, not, List, get_or}
 use Rattle.std.proofs.Math.Path.{sym}

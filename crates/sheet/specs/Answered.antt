@@ -1,5 +1,6 @@
 -- The answers of build and reading, by their verdict: what both clauses of a promise say follows from the first, and what a done
 -- answer says of a sheet.
+-- What of this a wrong definition breaks, and what rests on that, stands in `proofs/Answered.antt`.
 -- Assumes nothing.
 use Rattle.std.specs.Prelude.{◌≡◌, refl, ℕ}
 use Rattle.std.proofs.Common.{ap, ◌∙◌, arith}

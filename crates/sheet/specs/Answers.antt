@@ -8,8 +8,8 @@
 --   to_polynomial, to_normal        the two conversions, by the rows as they stand
 --   through_table                  the product, by the table as it stands
 --   inverse_through, quotient_through   the inverse and the quotient, by the table as it stands
---   ..Answer, ..Report            the calls, as functions of their inputs
---   built_buffer, ..List           what the lent buffer and list hold at the end
+--   .._answer, .._report            the calls, as functions of their inputs
+--   built_buffer, .._list          what the lent buffer and list hold at the end
 --
 -- Assumes nothing.
 use Rattle.std.specs.Prelude.{List, ◌++◌, map, ℕ, length, drop}

@@ -1,4 +1,5 @@
 -- What a sheet of good shape has: its size, its places, and numbers below 2 ^ n.
+-- What of this a wrong definition breaks, and what rests on that, stands in `proofs/Clear.antt`.
 -- Assumes nothing.
 use Rattle.std.specs.Prelude.{◌≡◌, ◌||◌, List, length}
 use Rattle.std.proofs.Common.{arith}

@@ -1,4 +1,5 @@
 -- Laws of the orders of converting and multiplying: what they leave of the sheet and of the values where no condition applies.
+-- What of this a wrong definition breaks, and what rests on that, stands in `proofs/ConvertingLaws.antt`.
 -- Assumes nothing.
 use Rattle.std.specs.Prelude.{◌≡◌, List, [], ◌∷◌, ℕ}
 use Rattle.std.proofs.Common.{sym, ap, ◌∙◌}

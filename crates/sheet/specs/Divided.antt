@@ -11,6 +11,7 @@
 --   inverse-product, product-inverse                    it is a number times its inverse, either way round
 --   quotient-product, quotient-alone                    quotient times divisor is the dividend, and no other number times it is
 --
+-- What of this a wrong definition breaks, and what rests on that, stands in `proofs/Divided.antt`.
 -- Assumes nothing.
 use Rattle.std.specs.Prelude.{◌≡◌, List, [], ◌∷◌}
 use Rattle.std.proofs.Math.Path.{ap}

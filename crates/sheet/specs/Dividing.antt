@@ -1,5 +1,6 @@
 -- Laws of the orders of dividing: when 13 is given; a number to invert is judged as if it were divided by itself; what the orders leave of
 -- the sheet and of the numbers where no condition applies.
+-- What of this a wrong definition breaks, and what rests on that, stands in `proofs/DividingLaws.antt`.
 -- Assumes nothing.
 use Rattle.std.specs.Prelude.{◌≡◌, [], ◌∷◌, ℕ}
 use Rattle.std.proofs.Common.{◌∙◌, eq-eqb, ne_eqb}

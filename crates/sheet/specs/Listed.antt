@@ -4,6 +4,7 @@
 --   OnShape, OnReading                      these numbers, each with its places
 --   shape-listed, basis_listed, differ-listed, read-listed   every rule of the order, or of a part of it, has such a number and place
 --
+-- What of this a wrong definition breaks, and what rests on that, stands in `proofs/Listed.antt`.
 -- Assumes nothing.
 use Rattle.std.specs.Prelude.{refl, ◌⊎◌, List, [], ◌∷◌, ℕ, zero, suc, ◌+◌, ◌≤◌}
 use Rattle.std.proofs.Common.{inl, arith}

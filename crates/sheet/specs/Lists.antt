@@ -2,6 +2,7 @@
 --
 --   first_large_lem n i values   the index of the first value that is 2 ^ n or more, counted from i; past the last where there is none
 --
+-- What of this a wrong definition breaks, and what rests on that, stands in `proofs/ListsLaws.antt`.
 -- Assumes nothing.
 use Rattle.std.specs.Prelude.{◌≡◌, refl, Bool, true, false, cond, List, [], ◌∷◌, ◌++◌, map, ℕ, zero, suc, ◌+◌, ◌≤◌, ◌<◌, length, get_or, set, take, drop}
 use Rattle.std.proofs.Common.{sym, ap, ap₂, ◌∙◌, append-nil, le_of_suc-le-suc, not-suc-le-zero, add-one, arith, drop_of_length-le, length-append, length-drop, drop-cons, take-suc, take_all, lt-ltb, le-ltb, eq-eqb, ne_eqb}

@@ -1,8 +1,8 @@
 -- The refusals of the calls on sheets (document 01, "Refusal numbers"; document 02, §1 and §6): the rows 5 to 11 of the table, row 4 for a
 -- list, and 13, which §1 adds; and the orders of build, reading, converting, multiplying and dividing. Definitions alone.
 --
---   ..Rule, ..Rules   the rows of the table; those that go record by record, or value by value
---   ..Order           the orders of the calls, and parts of them
+--   .._rule, .._rules   the rows of the table; those that go record by record, or value by value
+--   .._order          the orders of the calls, and parts of them
 --   Sized, Shaped     what is left of a sheet if none of 7 to 9 applies
 --   Fits, Small       what is left of a list if 11 does not apply, and if 4 does not
 --

@@ -1,4 +1,5 @@
 -- Laws of the shape conditions: what each test of the code gives, the walk over the records, and what a clear shape leaves.
+-- What of this a wrong definition breaks, and what rests on that, stands in `proofs/ShapeLaws.antt`.
 -- Assumes nothing.
 use Rattle.std.specs.Prelude.{◌≡◌, true, false, not, ◌||◌, List, ℕ, ◌-◌, ◌/◌, ◌%◌, ◌≤◌, ◌<◌, ltb, eqb, length}
 use Rattle.std.proofs.Math.Path.{sym}

@@ -4,7 +4,7 @@
 --   SheetOf f n a sheet   the bytes are the sheet of such an f and a
 --
 -- `Issuing` gives them from a build or a reading that finds nothing to refuse, and back; `Held` says what such a sheet holds, `Through`
--- what is computed through it, `Issued` what the calls answer.
+-- what is computed through it, `IssuedLaws` what the calls answer.
 -- Assumes nothing.
 use Rattle.std.specs.Prelude.{◌≡◌, true, List, ℕ, ◌^◌, ◌<◌}
 use Rattle.gf2.specs.Poly.{degree}

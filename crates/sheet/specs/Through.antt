@@ -2,9 +2,10 @@
 -- elements; and no call on it refuses a value below 2^n, or a list of words.
 --
 --   values-clear, list-clear, coordinates-clear   the orders of the calls on it
---   element_of, coordinates_of    what a conversion gives: `..-lt` below 2^n; `back-there` gives back, `there_back` gives the remainder
+--    element_of, coordinates_of    what a conversion gives: `..lt` below 2^n; `back-there` gives back, `there_back` gives the remainder
 --   product_lt, product_of        the product through its table
 --
+-- What of this a wrong definition breaks, and what rests on that, stands in `proofs/Through.antt`.
 -- Assumes nothing.
 use Rattle.std.specs.Prelude.{◌≡◌, false, ℕ, suc, ◌+◌, ◌^◌, ◌<◌}
 use Rattle.std.proofs.Common.{◌∙◌, arith}

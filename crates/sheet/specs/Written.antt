@@ -1,5 +1,6 @@
 -- The sheet of f and a normal element: its shape is clear, its rows are those of the definitions, it is rebuilt as itself; and a sheet
 -- that reading finds nothing wrong with is such a sheet.
+-- What of this a wrong definition breaks, and what rests on that, stands in `proofs/Written.antt`.
 -- Assumes nothing.
 use Rattle.std.specs.Prelude.{◌≡◌, refl, true, false, List, [], ◌∷◌, eqb}
 use Rattle.std.proofs.Common.{ap₂}

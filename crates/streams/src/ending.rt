@@ -1,4 +1,6 @@
 // How a run ended, told to whoever started the program.
+ghost use Rattle.std.specs.Prelude.{◌≡◌, if◌then◌else◌};
+
 use std::fs::OpenOptions;
 use std::io::Write;
 use std::os::unix::fs::PermissionsExt;
@@ -31,7 +33,9 @@ fn ending_byte(ending: Ending) -> u8 {
 }
 
 // How a run ends whose answer was written, or was not.
-pub fn done_if(written: bool) -> Ending {
+pub fn done_if(written: bool) -> Ending
+    ensures { result ≡ (if written then Ending.Done else Ending.Failed) }
+{
     if written {
         Ending::Done
     } else {

@@ -1,3 +1,4 @@
+-- `divisors::peeling::smallest_of_level` meets its contract: the goals that the check leaves. Its loop is told in `Invariants.antt`. Assumes nothing.
 use native.Mathlib.Omega.{arith}
 use Rattle.divisors.specs.Level.{level_part}
 use Rattle.divisors.specs.Peeling.{peeled_start, peeled_turn, peeled_less, peeled_done}

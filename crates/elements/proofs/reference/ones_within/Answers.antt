@@ -1,3 +1,4 @@
+-- `elements::reference::ones_within` meets its contract: the goals that the check leaves. Its loop is told in `Invariants.antt`. Assumes nothing.
 use Rattle.std.proofs.Common.{◌≡◌, ℕ, ◌+◌, ◌^◌, ◌<◌, ap, ◌∙◌, arith, w64, Fits, rules}
 use lib.Count.{ones-le}
 use Rattle.gf2.specs.Poly.{mul_mod}

@@ -1,3 +1,4 @@
+-- `elements::squares::square_rows` meets its contract: the goals that the check leaves. Its loop is told in `Invariants.antt`. Assumes nothing.
 use Rattle.std.proofs.Common.{◌≡◌, ℕ, ◌≤◌, List, ap, ◌∙◌, arith}
 use lib.Pow.{pow-lt}
 use Rattle.gf2.specs.Limit.{limit}

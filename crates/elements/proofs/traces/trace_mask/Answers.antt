@@ -1,3 +1,4 @@
+-- `elements::traces::trace_mask` meets its contract: the goals that the check leaves. Its loop is told in `Invariants.antt`. Assumes nothing.
 use Rattle.std.proofs.Common.{◌≡◌, ℕ, ◌+◌, ◌*◌, ◌%◌, ◌^◌, ◌≤◌, refl, ap, ◌∙◌, add-one, arith}
 use lib.Bits.{bit_xor}
 use lib.Pow.{pow-lt}

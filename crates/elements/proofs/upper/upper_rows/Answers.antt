@@ -1,3 +1,4 @@
+-- `elements::upper::upper_rows` meets its contract: the goals that the check leaves. Its loop is told in `Invariants.antt`. Assumes nothing.
 use Rattle.std.proofs.Common.{◌≡◌, ℕ, ◌≤◌, List, ap, ◌∙◌, arith}
 use Rattle.gf2.specs.Limit.{limit}
 use Rattle.gf2.specs.Remainder.{rem_lt}

@@ -1,3 +1,4 @@
+-- `elements::windows::wide_product` meets its contract: the goals that the check leaves. Its loop is told in `Invariants.antt`. Assumes nothing.
 use Rattle.std.proofs.Common.{arith, pow_pos}
 use Rattle.elements.specs.Windows.{wide-first, wide_step, wide-last}
 use Rattle.elements.proofs.windows.wide_product.Goals as goal

@@ -1,3 +1,4 @@
+-- `gf2::division::raised` meets its contract: the goals that the check leaves. Its loop is told in `Invariants.antt`. Assumes nothing.
 use Rattle.std.proofs.Common.{◌≡◌, ℕ, ◌+◌, ◌*◌, ◌^◌, ap, ◌∙◌, arith}
 use Rattle.gf2.specs.Poly.{rem}
 use Rattle.gf2.specs.Steps.{rem_turn}

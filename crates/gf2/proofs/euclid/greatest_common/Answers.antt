@@ -1,3 +1,4 @@
+-- `gf2::euclid::greatest_common` meets its contract: the goals that the check leaves. Its loop is told in `Invariants.antt`. Assumes nothing.
 use Rattle.std.proofs.Common.{◌≡◌, ℕ, ◌+◌, ◌^◌, ◌<◌, arith}
 use Rattle.gf2.specs.Poly.{rem, degree, Degree}
 use Rattle.gf2.specs.Degrees.{degree_is, degree-lt}

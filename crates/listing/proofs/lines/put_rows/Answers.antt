@@ -1,3 +1,4 @@
+-- `listing::lines::put_rows` meets its contract: the goals that the check leaves. Its loop is told in `Invariants.antt`. Assumes nothing.
 use mathlib.Core.Path.{◌≡◌}
 use native.Mathlib.Omega.{arith}
 use Rattle.listing.specs.Putting.{put-length}

@@ -1,3 +1,4 @@
+-- `rows::by_bytes::sum_by_bytes` meets its contract: the goals that the check leaves. Its loop is told in `Invariants.antt`. Assumes nothing.
 use native.Mathlib.Omega.{arith}
 use Rattle.gf2.specs.Poly.{◌⊕◌}
 use Rattle.gf2.specs.Sum.{zero-⊕}

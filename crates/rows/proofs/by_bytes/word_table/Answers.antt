@@ -1,3 +1,4 @@
+-- `rows::by_bytes::word_table` meets its contract: the goals that the check leaves. Its loop is told in `Invariants.antt`. Assumes nothing.
 use mathlib.Core.Path.{◌≡◌, refl, sym, ap, ◌∙◌}
 use Prim.Native.Nat.{ℕ, ◌+◌, ◌*◌, ◌≤◌}
 use native.Mathlib.Omega.{arith}

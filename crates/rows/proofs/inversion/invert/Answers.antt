@@ -1,3 +1,4 @@
+-- `rows::inversion::invert` meets its contract: the goals that the check leaves. Its loop is told in `Invariants.antt`. Assumes nothing.
 use mathlib.Core.Path.{◌≡◌, refl, sym, ◌∙◌}
 use Prim.Native.Nat.{ℕ, ◌^◌, ◌≤◌, ◌<◌}
 use native.Mathlib.Nat.{lt_of_le_of_lt, lt_of_lt_of_le}

@@ -1,3 +1,4 @@
+-- `search::walking::next_leader` meets its contract: the goals that the check leaves. Its loop is told in `Invariants.antt`. Assumes nothing.
 use mathlib.Core.Path.{sym, ◌∙◌}
 use native.Mathlib.Omega.{arith}
 use lib.Pow.{pow_mono}

@@ -1,3 +1,4 @@
+-- `sheet::lists::copy` meets its contract: the goals that the check leaves. Its loop is told in `Invariants.antt`. Assumes nothing.
 use mathlib.Core.Path.{refl, ◌∙◌}
 use mathlib.Core.List.{map-id}
 use native.Mathlib.Omega.{arith}

@@ -1,3 +1,4 @@
+-- `sheet::lists::first_too_large` meets its contract: the goals that the check leaves. Its loop is told in `Invariants.antt`. Assumes nothing.
 use mathlib.Core.Path.{refl, sym, ◌∙◌}
 use native.Mathlib.Omega.{arith}
 use Rattle.sheet.specs.Lists.{large_found, large_passed, large_none}

@@ -1,3 +1,4 @@
+-- `words::polynomials::exponents` meets its contract: the goals that the check leaves. Its loop is told in `Invariants.antt`. Assumes nothing.
 use mathlib.Core.Path.{sym, ◌∙◌}
 use Prim.Native.Nat.{◌+◌, ◌^◌, ◌≤◌, ◌<◌}
 use native.Mathlib.Omega.{arith}

@@ -1,3 +1,4 @@
+-- `words::polynomials::part_end` meets its contract: the goals that the check leaves. Its loop is told in `Invariants.antt`. Assumes nothing.
 use mathlib.Core.Path.{refl}
 use native.Mathlib.Omega.{arith}
 use Rattle.words.specs.Parts.{colon-found, colon_passed, colon-none}
