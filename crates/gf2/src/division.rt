@@ -24,10 +24,9 @@ pub fn raised(low: u64, width: u32, y: u64, up: u32) -> u64
     requires { (1 ≤ width) × (width ≤ 64) × (64 ≤ width + up) × (y < 2 ^ width) }
     ensures { result ≡ rem (2 ^ 64 + low) 64 (y * 2 ^ up) }
 {
-    let mut k = 64 - width;
-    let mut r = y << k;
-    while k < up {
-        k += 1;
+    let fits = 64 - width;
+    let mut r = y << fits;
+    for _k in fits..up {
         r = times_x(low, r);
     }
     r

@@ -28,15 +28,13 @@ pub fn multiply(f: u64, n: u32, a: u64, b: u64) -> u64
     let mut rest = element << k;
     let mut added = picked(rest >> 63, high);
     let mut sum: u64 = 0;
-    let mut left = n;
     // The coefficients of x^(n-1), x^(n-2), .. , x^0, one a turn: the sum is multiplied by x, and a is added if the coefficient is set.
     // After each turn sum >> k is the cell's partial sum. What a turn adds is made one turn ahead, so that the compiler keeps it off the
     // path from sum to sum.
-    while left > 0 {
+    for _taken in 0..n {
         sum = times_x(low, sum) ^ added;
         rest = rest << 1;
         added = picked(rest >> 63, high);
-        left -= 1;
     }
     sum >> k
 }

@@ -9,23 +9,14 @@ use super::division::{raised, remainder};
 // 2^32: what cuts a word into halves.
 const HALF: u64 = 4294967296;
 
-fn wide(x: u16) -> u64
-    ensures { result ≡ x }
-{
-    x as u64
-}
-
 // The spread of half a word, byte by byte from the highest down.
-fn spread_half(table: &[u16; 256], a: u64) -> u64
-    requires { SpreadTable table.now × (a < 2 ^ 32) }
-    ensures { result ≡ spread a }
+fn spread_half(table: &[u16; 256], half: u32) -> u64
+    requires { SpreadTable table.now }
+    ensures { result ≡ spread half }
 {
     let mut sum: u64 = 0;
-    let mut k: u32 = 32;
-    while k > 0 {
-        k -= 8;
-        let byte = ((a >> k) % 256) as usize;
-        sum = (sum << 16) ^ wide(table[byte]);
+    for byte in half.to_be_bytes() {
+        sum = (sum << 16) ^ u64::from(table[byte as usize]);
     }
     sum
 }
@@ -36,11 +27,11 @@ pub fn square(table: &[u16; 256], f: u64, n: u32, a: u64) -> u64
     requires { SpreadTable table.now × Element f n a }
     ensures { result ≡ mul_mod f n a a }
 {
-    let low = spread_half(table, a % HALF);
+    let low = spread_half(table, (a % HALF) as u32);
     if n <= 32 {
         return remainder(f, n, 2 * n, low);
     }
-    let high = spread_half(table, a / HALF);
+    let high = spread_half(table, (a / HALF) as u32);
     let moved = raised(f << (64 - n), 2 * n - 64, high, 64);
     remainder(f, n, 64, moved ^ low)
 }

@@ -48,31 +48,35 @@ word c = degree-lt c.args.f c.args.n 64 c.requires.is_degree c.ranges.f.fits
 pub overflow_sub-k : goal.overflow_sub-k
 overflow_sub-k c = omega (arith, word (goal.at.overflow_sub-k c).Start)
 
-pub loop-left-init : goal.loop-left-init
-loop-left-init c =
-    let l = rem_lt c.args.f c.args.n c.requires.is_degree c.args.b in (
-      omega (arith, word (goal.at.loop-left-init c).Start),
-      start c.args.n (rem c.args.f c.args.n c.args.b) c.element_of-element.result (word (goal.at.loop-left-init c).Start) l c.element_of-element.ensures,
+pub loop-taken-init : goal.loop-taken-init
+loop-taken-init c =
+    let l = rem_lt c.args.f c.args.n c.requires.is_degree c.args.b in
+    let all : c.args.n - 0 ≡ c.args.n = omega arith in
+    rw all (
+      start c.args.n (rem c.args.f c.args.n c.args.b) c.element_of-element.result (word (goal.at.loop-taken-init c).Start) l c.element_of-element.ensures,
       c.picked-added.ensures,
       nothing _ _ (rem c.args.f c.args.n c.args.b) c.args.n l,
     )
 
-pub loop-left-preserved : goal.loop-left-preserved
-loop-left-preserved c =
+pub loop-taken-preserved : goal.loop-taken-preserved
+loop-taken-preserved c =
     let e = rem c.args.f c.args.n c.args.b in
-    let i = c.loop-left.invariant in
-    let some : 1 ≤ c.loop-left.left = omega (arith, c.loop-left-test.true) in (
-      omega (arith, i.0),
-      moved e c.loop-left.left c.loop-left.rest some i.0 i.1,
-      c.picked-added-in-loop-left.ensures,
-      turned e c.loop-left.left c.loop-left.rest some i.0 i.1 _ _ c.loop-left.added c.loop-left.sum c.times_x.result
-          (mod-lt _ (pow_pos 64)) (mod-lt _ (pow_pos 64)) i.2 i.3 c.times_x.ensures,
+    let left : ℕ = c.args.n - c.loop-taken._taken in
+    let i = c.loop-taken.invariant in
+    let some : 1 ≤ left = omega arith in
+    let most : left ≤ 64 = omega (arith, word (goal.at.loop-taken-preserved c).Start) in
+    let less : c.args.n - (c.loop-taken._taken + 1) ≡ left - 1 = omega arith in
+    rw less (
+      moved e left c.loop-taken.rest some most i.0,
+      c.picked-added-in-loop-taken.ensures,
+      turned e left c.loop-taken.rest some most i.0 _ _ c.loop-taken.added c.loop-taken.sum c.times_x.result
+          (mod-lt _ (pow_pos 64)) (mod-lt _ (pow_pos 64)) i.1 i.2 c.times_x.ensures,
     )
 
 pub returns : goal.returns
 returns c =
     let e = rem c.args.f c.args.n c.args.b in
-    let none : c.loop-left.left ≡ 0 = omega (arith, c.loop-left-test.false) in
-    mul_mod_lowered c.args.f c.args.n c.args.a e c.requires.is_degree c.requires.below (word (goal.at.returns c).Start) _ c.loop-left.sum refl
-    (c.loop-left.invariant.3 ∙ ap (mul_mod _ 64 _) (ap (λ (i : ℕ). e / 2 ^ i) none ∙ div-one e))
+    let none : c.args.n - c.loop-taken._taken ≡ 0 = omega arith in
+    mul_mod_lowered c.args.f c.args.n c.args.a e c.requires.is_degree c.requires.below (word (goal.at.returns c).Start) _ c.loop-taken.sum refl
+    (c.loop-taken.invariant.2 ∙ ap (mul_mod _ 64 _) (ap (λ (i : ℕ). e / 2 ^ i) none ∙ div-one e))
     ∙ mul_mod-rem_r c.args.f c.args.n c.requires.is_degree c.args.a c.args.b
