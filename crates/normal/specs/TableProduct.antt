@@ -7,13 +7,14 @@
 --   total k g                the sum of g 0 to g (k - 1)
 --   product_bit n rows a b k  bit k of the product of a and b
 --   table_product n rows a b  the number with these bits
+--   SumsRows n T answers     the answers are the sums of the n rows T that a number below 2^n picks
 --   Factors rows n a b       rows is a matrix of a degree within the limit, and a and b are coordinates: what a product asks
 --
 -- Assumes nothing.
-use Rattle.std.specs.Prelude.{List, ℕ, zero, suc, ◌+◌, ◌-◌, ◌*◌, ◌/◌, ◌%◌, ◌^◌, ◌≤◌, ◌<◌, get_or}
+use Rattle.std.specs.Prelude.{◌≡◌, List, ℕ, zero, suc, ◌+◌, ◌-◌, ◌*◌, ◌/◌, ◌%◌, ◌^◌, ◌≤◌, ◌<◌, length, get_or}
 use Rattle.gf2.specs.Limit.{limit}
 use Rattle.rows.specs.Bits.{bit_of}
-use Rattle.rows.specs.Rows.{Matrix}
+use Rattle.rows.specs.Rows.{comb, Matrix}
 
 -- what stands above bit n-1 once all bits are moved up comes round to bit 0
 unfoldable pub rotate : (n v : ℕ) → ℕ
@@ -37,6 +38,12 @@ product_bit n rows a b k =
 
 unfoldable pub table_product : (n : ℕ) (rows : List ℕ) (a b : ℕ) → ℕ
 table_product n rows a b = total n (λ k. product_bit n rows a b k * 2 ^ k)
+
+-- what a function that sums rows answers: `answers v s` says that it may answer s for v
+pub record SumsRows (n : ℕ) (T : List ℕ) (answers : ℕ → ℕ → Type 0) : Type 0 where
+  pub size : length T ≡ n
+  pub row_lt : (i : ℕ) → i < n → get_or T i 0 < 2 ^ n
+  pub sums : (v s : ℕ) → v < 2 ^ n → answers v s → s ≡ comb T v
 
 -- "the n-bit number v": the operands are coordinates, and the rows are those of a sheet, as they stand
 pub record Factors (rows : List ℕ) (n a b : ℕ) : Type 0 where

@@ -33,12 +33,9 @@ fn table_of(f: u64, n: u32, conjugates: [u64; LIMIT], inverse: [u64; LIMIT]) -> 
     ensures { result ≡ padded (listed n (λ i. comb inverse (mul_mod f n (get_or conjugates 0 0) (get_or conjugates i 0)))) }
 {
     let mut rows: [u64; LIMIT] = [0; LIMIT];
-    let count = n as usize;
     let first = conjugates[0];
-    let mut i: usize = 0;
-    while i < count {
+    for i in 0..n as usize {
         rows[i] = sum(&inverse, multiply(f, n, first, conjugates[i]));
-        i += 1;
     }
     rows
 }

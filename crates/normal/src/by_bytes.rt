@@ -4,22 +4,13 @@ ghost use Rattle.std.specs.Prelude.{◌≡◌, ◌^◌, ◌<◌};
 ghost use Rattle.normal.specs.TableProduct.{table_product};
 ghost use Rattle.normal.specs.Summed.{summed_rows, Summed};
 
-use super::product::rotated;
-use gf2::picked;
+use super::product::product_by_turns;
 use rows::{BYTE_SUMS, sum_by_bytes};
 
-// The product of a and b, by the turns of `product_of`.
+// The product of a and b.
 pub fn product_by_bytes(sums: &[u64; BYTE_SUMS], n: u32, a: u64, b: u64) -> u64
     requires { Summed n sums.now × (a < 2 ^ n) × (b < 2 ^ n) }
     ensures { result ≡ table_product n (summed_rows n sums.now) a b }
 {
-    let mut product: u64 = 0;
-    let mut turned = b;
-    let mut i = n;
-    while i > 0 {
-        i -= 1;
-        turned = rotated(n, turned);
-        product = rotated(n, product) ^ picked((a >> i) % 2, sum_by_bytes(sums, turned));
-    }
-    product
+    product_by_turns(n, a, b, |turned| sum_by_bytes(sums, turned))
 }

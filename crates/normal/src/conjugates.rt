@@ -13,13 +13,10 @@ pub fn conjugates_of(spread: &[u16; 256], f: u64, n: u32, a: u64) -> [u64; LIMIT
     ensures { result ≡ padded (conjugates f n a) }
 {
     let mut rows: [u64; LIMIT] = [0; LIMIT];
-    let count = n as usize;
     let mut y = a;
-    let mut i: usize = 0;
-    while i < count {
+    for i in 0..n as usize {
         rows[i] = y;
         y = square(spread, f, n, y);
-        i += 1;
     }
     rows
 }

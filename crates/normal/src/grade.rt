@@ -9,7 +9,7 @@ use field::element_power;
 use gf2::LIMIT;
 
 // The grades 0 to 3 (document 02, §3): not optimal, optimal of the first kind, of the second kind, of both.
-#[derive(Clone, Copy)]
+#[derive(Clone, Copy, Debug, PartialEq, Eq)]
 pub enum Grade {
     Zero,
     One,
@@ -23,10 +23,8 @@ pub fn complexity_of(rows: [u64; LIMIT], n: usize) -> u32
     ensures { result ≡ complexity (take n rows) }
 {
     let mut sum: u32 = 0;
-    let mut i: usize = 0;
-    while i < n {
-        sum += u64::count_ones(rows[i]);
-        i += 1;
+    for row in &rows[..n] {
+        sum += row.count_ones();
     }
     sum
 }
@@ -58,13 +56,25 @@ pub fn grade_of(f: u64, n: u32, a: u64, complexity: u32) -> Grade
 }
 
 // The documents' number of a grade.
+impl From<Grade> for u64 {
+    ghost from_gives = { λ grade number. number ≡ grade_number grade };
+
+    #[tactic(auto, unfolding(crate::specs::Grades::grade_number))]
+    fn from(grade: Grade) -> u64
+        ensures { result ≡ grade_number grade }
+    {
+        match grade {
+            Grade::Zero => 0,
+            Grade::One => 1,
+            Grade::Two => 2,
+            Grade::Three => 3,
+        }
+    }
+}
+
+// The same by a name, for callers that have no type at hand that says it.
 pub fn grade_number(grade: Grade) -> u64
     ensures { result ≡ grade_number grade }
 {
-    match grade {
-        Grade::Zero => 0,
-        Grade::One => 1,
-        Grade::Two => 2,
-        Grade::Three => 3,
-    }
+    u64::from(grade)
 }

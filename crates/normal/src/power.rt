@@ -15,10 +15,8 @@ fn rotated_by(n: u32, h: u32, v: u64) -> u64
     ensures { result ≡ rotated_by n h v }
 {
     let mut turned = v;
-    let mut i: u32 = 0;
-    while i < h {
+    for _ in 0..h {
         turned = rotated(n, turned);
-        i += 1;
     }
     turned
 }

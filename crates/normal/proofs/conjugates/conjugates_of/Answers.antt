@@ -11,40 +11,28 @@ use Rattle.normal.specs.Filling.{Filled, filled_start, filled_turn, filled_padde
 use Rattle.normal.specs.Turns.{conjugates-listed}
 use Rattle.normal.proofs.conjugates.conjugates_of.Goals as goal
 
-done : (f n a i : ℕ) (rows : List ℕ) → i ≤ n → n ≤ i → n ≤ limit → Filled rows i (λ j. squared f n j a) → rows ≡ padded (conjugates f n a)
-done f n a i rows p q small s =
-    let e : i ≡ n = omega arith in
+done : (f n a i : ℕ) (rows : List ℕ) → i ≡ n → n ≤ limit → Filled rows i (λ j. squared f n j a) → rows ≡ padded (conjugates f n a)
+done f n a i rows e small s =
     filled_padded rows n (λ j. squared f n j a) small (rw e at s) ∙ ap padded (sym (conjugates-listed f n a))
 
 pub loop-i-init : goal.loop-i-init
 loop-i-init c =
-    (omega arith, filled_start (λ j. squared c.args.f c.args.n j c.args.a), squared_start c.args.f c.args.n c.args.a)
-
-pub offset_bounds-rows-i : goal.offset_bounds-rows-i
-offset_bounds-rows-i c = omega (arith, c.requires.1)
-
-pub bounds-rows-i : goal.bounds-rows-i
-bounds-rows-i c = omega (arith, c.requires.1)
+    (filled_start (λ j. squared c.args.f c.args.n j c.args.a), squared_start c.args.f c.args.n c.args.a)
 
 pub square-y-requires : goal.square-y-requires
 square-y-requires c = (
   c.requires.0,
   record {
     is_degree = c.requires.2.is_degree;
-    below = rw c.loop-i.invariant.2 (squared-lt c.args.f c.args.n c.requires.2.is_degree c.loop-i.i c.args.a c.requires.2.below);
+    below = rw c.loop-i.invariant.1 (squared-lt c.args.f c.args.n c.requires.2.is_degree c.loop-i.i c.args.a c.requires.2.below);
   },
 )
 
-pub overflow_add-i : goal.overflow_add-i
-overflow_add-i c = omega (arith, c.requires.1)
-
 pub loop-i-preserved : goal.loop-i-preserved
 loop-i-preserved c = (
-  omega arith,
-  filled_turn c.loop-i.rows c.loop-i.i c.loop-i.y (λ j. squared c.args.f c.args.n j c.args.a) (omega (arith, c.requires.1)) c.loop-i.invariant.2 c.loop-i.invariant.1,
-  squared_turn c.args.f c.args.n c.requires.2.is_degree c.loop-i.i c.args.a c.loop-i.y c.square-y.result c.loop-i.invariant.2 c.square-y.ensures,
+  filled_turn c.loop-i.rows c.loop-i.i c.loop-i.y (λ j. squared c.args.f c.args.n j c.args.a) (omega (arith, c.requires.1)) c.loop-i.invariant.1 c.loop-i.invariant.0,
+  squared_turn c.args.f c.args.n c.requires.2.is_degree c.loop-i.i c.args.a c.loop-i.y c.square-y.result c.loop-i.invariant.1 c.square-y.ensures,
 )
 
 pub returns : goal.returns
-returns c =
-    done c.args.f c.args.n c.args.a c.loop-i.i c.loop-i.rows c.loop-i.invariant.0 c.loop-i-test.false c.requires.1 c.loop-i.invariant.1
+returns c = done c.args.f c.args.n c.args.a c.loop-i.i c.loop-i.rows (omega arith) c.requires.1 c.loop-i.invariant.0

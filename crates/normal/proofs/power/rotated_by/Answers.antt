@@ -15,18 +15,16 @@ turn : (n i v turned next : ℕ) → turned ≡ rotated_by n i v → next ≡ ro
 unfolding rotated_by
 turn n i v turned next e en = en ∙ rw (e, add-one)
 
-pub loop-i-init : goal.loop-i-init
-loop-i-init c = (omega arith, start c.args.n c.args.v)
+pub loop-init : goal.loop-init
+loop-init c = start c.args.n c.args.v
 
 pub rotated-turned-requires : goal.rotated-turned-requires
-rotated-turned-requires c =
-    (c.requires.1, rw c.loop-i.invariant.1 (rotated_by-lt c.args.n c.requires.0 c.loop-i.i c.args.v c.requires.2))
+rotated-turned-requires c = (c.requires.1, rw c.loop.invariant (rotated_by-lt c.args.n c.requires.0 c.loop.counter c.args.v c.requires.2))
 
-pub loop-i-preserved : goal.loop-i-preserved
-loop-i-preserved c =
-    (omega arith, turn c.args.n c.loop-i.i c.args.v c.loop-i.turned c.rotated-turned.result c.loop-i.invariant.1 c.rotated-turned.ensures)
+pub loop-preserved : goal.loop-preserved
+loop-preserved c = turn c.args.n c.loop.counter c.args.v c.loop.turned c.rotated-turned.result c.loop.invariant c.rotated-turned.ensures
 
 pub returns : goal.returns
 returns c =
-    let e : c.loop-i.i ≡ c.args.h = omega arith in
-    c.loop-i.invariant.1 ∙ ap (λ (k : ℕ). rotated_by c.args.n k c.args.v) e
+    let e : c.loop.counter ≡ c.args.h = omega arith in
+    c.loop.invariant ∙ ap (λ (k : ℕ). rotated_by c.args.n k c.args.v) e

@@ -1,12 +1,8 @@
--- `normal::power::rotated_by` meets its contract. The invariant: turned is v rotated i times. The measure is the number of turns left.
+-- `normal::power::rotated_by` meets its contract. The invariant: turned is v rotated as often as there were turns.
 -- Assumes nothing.
 use mathlib.Core.Path.{◌≡◌}
-use Prim.Native.Nat.{◌-◌, ◌≤◌}
 use Rattle.normal.specs.TableProduct.{rotated_by}
 use Rattle.normal.proofs.power.rotated_by.Given as goal
 
-abbrev pub invariant-loop-i : goal.invariant-loop-i
-invariant-loop-i l = (l.i ≤ l.h) × (l.turned ≡ rotated_by l.n l.i l.v)
-
-abbrev pub decreases-loop-i : goal.decreases-loop-i
-decreases-loop-i l = l.h - l.i
+abbrev pub invariant-loop : goal.invariant-loop
+invariant-loop l = l.turned ≡ rotated_by l.n l.counter l.v
