@@ -125,6 +125,14 @@ map-agree convert other [] h = refl
 map-agree convert other (x ∷ xs) h =
     ap₂ {C = List ℕ} (λ (y : ℕ) (l : List ℕ). y ∷ l) (h 0 (omega arith)) (map-agree convert other xs (λ i l. h (suc i) (omega arith)))
 
+-- a list that has what a way to convert makes of each value of another is that other, converted
+pub map-each : (convert : ℕ → ℕ) (from into : List ℕ) → length into ≡ length from → ((i : ℕ) → i < length from → get_or into i 0 ≡ convert (get_or from i 0)) → into ≡ map convert from
+map-each convert [] [] e h = refl
+map-each convert [] (y ∷ ys) e h = absurd (omega arith)
+map-each convert (x ∷ xs) [] e h = absurd (omega arith)
+map-each convert (x ∷ xs) (y ∷ ys) e h =
+    ap₂ {C = List ℕ} (λ (z : ℕ) (l : List ℕ). z ∷ l) (h 0 (omega arith)) (map-each convert xs ys (omega arith) (λ i l. h (suc i) (omega arith)))
+
 -- ---- lists, value by value
 
 pub map_at : (g : ℕ → ℕ) (l : List ℕ) (i : ℕ) → i < length l → get_or (map g l) i 0 ≡ g (get_or l i 0)

@@ -28,13 +28,9 @@ pub fn number_at(sheet: &[u8], at: usize, size: usize) -> u64
     requires { (at + size ≤ length sheet.now) × (size ≤ 8) }
     ensures { result ≡ number_in (take size (drop at sheet.now)) }
 {
-    let mut number: u64 = 0;
-    let mut k = size;
-    while k > 0 {
-        k -= 1;
-        number = number * 256 + sheet[at + k] as u64;
-    }
-    number
+    let mut bytes = [0u8; WORD];
+    bytes[..size].copy_from_slice(&sheet[at..at + size]);
+    u64::from_le_bytes(bytes)
 }
 
 // The lowest size bytes of number, written at a place of the buffer.
@@ -43,10 +39,8 @@ pub fn put_number(buffer: &mut [u8], at: usize, size: usize, number: u64)
     ensures { buffer.new ≡ pasted buffer.old at (bytes_of size number) }
 {
     let mut rest = number;
-    let mut k: usize = 0;
-    while k < size {
-        buffer[at + k] = (rest % 256) as u8;
+    for byte in buffer[at..at + size].iter_mut() {
+        *byte = (rest % 256) as u8;
         rest = rest / 256;
-        k += 1;
     }
 }

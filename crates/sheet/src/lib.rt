@@ -5,6 +5,7 @@ mod answer;
 mod building;
 mod converting;
 mod dividing;
+mod in_place;
 mod layout;
 mod lists;
 mod loading;

@@ -1,16 +1,17 @@
 // The public calls that convert lists. A destination is written only if nothing is refused.
-ghost use Rattle.std.specs.Prelude.{◌≡◌, [], ◌∷◌, map, ◌<◌, length};
+ghost use Rattle.std.specs.Prelude.{◌≡◌, [], ◌∷◌, map, ◌<◌, length, position};
 ghost use Rattle.gf2.specs.Limit.{limit};
 ghost use Rattle.refusals.specs.Verdicts.{first_of};
 ghost use Rattle.refusals.specs.Answers.{checked_of, checked_report};
 ghost use Rattle.rows.specs.Rows.{comb};
 ghost use Rattle.field.specs.Accepted.{InRange};
+ghost use Rattle.field.specs.Refusals.{too_large_lem};
 ghost use Rattle.sheet.specs.Record.{record_count};
 ghost use Rattle.sheet.specs.Orders.{Shaped, Small, list_rule, value_rules, list_order, polynomial_list_order};
 ghost use Rattle.sheet.specs.Answers.{to_polynomial, to_normal, polynomial_list_answer, polynomial_list_report, polynomial_list, normal_list_answer, normal_list_report, normal_list};
-ghost use Rattle.sheet.specs.Lists.{first_large_lem};
 ghost use Rattle.sheet.specs.Unreduced.{in_normal};
 
+use super::in_place::convert_each;
 use super::layout::{CONJUGATE_AT, INVERSE_AT, RECORD};
 use super::loading::{load_rows, polynomial_of};
 use super::shape::shape_verdict;
@@ -27,31 +28,12 @@ pub const LIST_LIMIT: usize = 4096;
 // coordinate numbers at degree 46, for 48 at degree 10, and for more at smaller degrees; for words see docs/SPEED.md, "Lists".
 const TABLES_PAY: usize = 48;
 
-// The index of the first value that is 2^n or more, or the number of values.
-fn first_too_large(n: u32, values: &[u64]) -> usize
+// The index of the first value that is 2^n or more, if there is one.
+fn first_too_large(n: u32, values: &[u64]) -> Option<usize>
     requires { n < 64 }
-    ensures { result ≡ first_large_lem n 0 values.now }
+    ensures { result ≡ position (too_large_lem n) values.now }
 {
-    let mut i: usize = 0;
-    while i < values.len() {
-        if too_large(n, values[i]) {
-            return i;
-        }
-        i += 1;
-    }
-    i
-}
-
-// The list `from`, copied into the list `into`, where it is then converted.
-fn copy(from: &[u64], into: &mut [u64])
-    requires { length from.now ≡ length into.old }
-    ensures { into.new ≡ from.now }
-{
-    let mut i: usize = 0;
-    while i < from.len() {
-        into[i] = from[i];
-        i += 1;
-    }
+    values.iter().position(|value| too_large(n, *value))
 }
 
 // Every value converted by the rows, where it stands.
@@ -59,11 +41,7 @@ fn convert_all(rows: &[u64; LIMIT], list: &mut [u64])
     requires { Small limit list.old }
     ensures { list.new ≡ map (comb rows.now) list.old }
 {
-    let mut i: usize = 0;
-    while i < list.len() {
-        list[i] = sum(rows, list[i]);
-        i += 1;
-    }
+    convert_each(list, |value| sum(rows, value));
 }
 
 // The same from the tables of the rows, made once for the whole list.
@@ -73,9 +51,7 @@ fn convert_by_bytes(rows: [u64; LIMIT], list: &mut [u64])
 {
     let mut sums: [u64; BYTE_SUMS] = [0; BYTE_SUMS];
     byte_sums(rows, &mut sums);
-    for i in 0..list.len() {
-        list[i] = sum_by_bytes(&sums, list[i]);
-    }
+    convert_each(list, |value| sum_by_bytes(&sums, value));
 }
 
 // Every value converted by the rows, in the way that is faster for a list of its length.
@@ -109,7 +85,7 @@ fn fill_polynomials(sheet: &[u8], from: &[u64], into: &mut [u64])
     ensures { into.new ≡ map (to_polynomial sheet.now) from.now }
 {
     let rows = load_rows(sheet, CONJUGATE_AT);
-    copy(from, into);
+    into.copy_from_slice(from);
     convert_values(rows, into);
 }
 
@@ -119,7 +95,7 @@ fn fill_coordinates(sheet: &[u8], from: &[u64], into: &mut [u64])
     ensures { into.new ≡ map (to_normal sheet.now) from.now }
 {
     let rows = load_rows(sheet, INVERSE_AT);
-    copy(from, into);
+    into.copy_from_slice(from);
     convert_unreduced(
         rows,
         polynomial_of(sheet),
@@ -157,11 +133,10 @@ fn coordinates_verdict(n: u32, values: &[u64]) -> Checked
     requires { n < 64 }
     ensures { result ≡ checked_of (first_of (value_rules n 0 values.now)) }
 {
-    let large = first_too_large(n, values);
-    if large < values.len() {
-        return refused_at(4, large);
+    match first_too_large(n, values) {
+        Some(place) => refused_at(4, place),
+        None => Checked::Done,
     }
-    Checked::Done
 }
 
 // The shape, then 11 and 4.

@@ -46,10 +46,8 @@ pub fn load_rows(sheet: &[u8], at: usize) -> [u64; LIMIT]
 {
     let mut rows: [u64; LIMIT] = [0; LIMIT];
     let n = sheet.len() / RECORD;
-    let mut i: usize = 0;
-    while i < n {
+    for i in 0..n {
         rows[i] = number_at(sheet, RECORD * i + at, WORD);
-        i += 1;
     }
     rows
 }

@@ -1,5 +1,5 @@
 // The public call read: the shape, then the polynomial and the basis, then every record against the one rebuilt.
-ghost use Rattle.std.specs.Prelude.{◌≡◌, ◌∷◌, ◌+◌, ◌*◌, ◌≤◌, ◌<◌, length};
+ghost use Rattle.std.specs.Prelude.{◌≡◌, ◌∷◌, ◌+◌, ◌*◌, ◌≤◌, ◌<◌, length, MatchOption};
 ghost use Rattle.gf2.specs.Limit.{limit};
 ghost use Rattle.gf2.specs.Spread.{SpreadTable};
 ghost use Rattle.refusals.specs.Verdicts.{first_of};
@@ -25,29 +25,20 @@ fn record_differs(sheet: &[u8], rebuilt: &[u8], i: usize) -> bool
     ensures { result ≡ differs sheet.now rebuilt.now i }
 {
     let at = RECORD * i;
-    let mut k: usize = 0;
-    while k < RECORD {
-        if sheet[at + k] != rebuilt[at + k] {
-            return true;
-        }
-        k += 1;
-    }
-    false
+    sheet[at..at + RECORD] != rebuilt[at..at + RECORD]
 }
 
-// The first of n records that differs, or n.
-fn first_differing(sheet: &[u8], rebuilt: &[u8], n: usize) -> usize
+// The first of n records that differs, if one does.
+fn first_differing(sheet: &[u8], rebuilt: &[u8], n: usize) -> Option<usize>
     requires { (n ≤ limit) × (record_size * n ≤ length sheet.now) × (record_size * n ≤ length rebuilt.now) }
-    ensures { result ≡ first_differing sheet.now rebuilt.now 0 n }
+    ensures { MatchOption result (first_differing sheet.now rebuilt.now 0 n ≡ n) (λ i. (i < n) × (first_differing sheet.now rebuilt.now 0 n ≡ i)) }
 {
-    let mut i: usize = 0;
-    while i < n {
+    for i in 0..n {
         if record_differs(sheet, rebuilt, i) {
-            return i;
+            return Some(i);
         }
-        i += 1;
     }
-    i
+    None
 }
 
 // The sheet of a basis, compared record by record: 10, or its summary.
@@ -58,11 +49,10 @@ fn compared(sheet: &[u8], f: u64, n: u32, element: u64, basis: Basis) -> Issued
     let mut rebuilt = [0u8; RECORD * LIMIT];
     let summary = put_basis(&mut rebuilt, f, n, element, basis);
     let count = n as usize;
-    let place = first_differing(sheet, &rebuilt, count);
-    if place < count {
-        return Issued::Refused(Refusal { number: 10, place });
+    match first_differing(sheet, &rebuilt, count) {
+        Some(place) => Issued::Refused(Refusal { number: 10, place }),
+        None => Issued::Done(summary),
     }
-    Issued::Done(summary)
 }
 
 // The basis of record 0's conjugate, built and compared: 5, then 10.

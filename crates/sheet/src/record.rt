@@ -44,8 +44,7 @@ pub fn put_sheet(
     requires { (n ≤ limit) × (record_size * n ≤ length buffer.old) }
     ensures { buffer.new ≡ pasted buffer.old 0 (records_to n n tail conjugates inverse table) }
 {
-    let mut i: usize = 0;
-    while i < n {
+    for i in 0..n {
         put_record(
             buffer,
             n as u64,
@@ -55,6 +54,5 @@ pub fn put_sheet(
             inverse[i],
             table[i],
         );
-        i += 1;
     }
 }

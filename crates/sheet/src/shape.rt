@@ -68,15 +68,13 @@ pub fn shape_verdict(sheet: &[u8]) -> Checked
     }
     let n = sheet.len() / RECORD;
     let tail = number_at(sheet, TAIL_AT, TAIL);
-    let mut i: usize = 0;
-    while i < n {
+    for i in 0..n {
         if is_misplaced(sheet, n, i, tail) {
             return refused_at(8, i);
         }
         if is_oversized(sheet, n, i) {
             return refused_at(9, i);
         }
-        i += 1;
     }
     Checked::Done
 }

@@ -8,6 +8,7 @@ ghost use Rattle.rows.specs.Rows.{comb};
 ghost use Rattle.field.specs.Accepted.{InRange};
 ghost use Rattle.sheet.specs.Unreduced.{word_rows, in_normal};
 
+use super::in_place::convert_each;
 use gf2::{LIMIT, element_of, multiply_by_x};
 use rows::{WORD_ROWS, WORD_SUMS, sum, sum_of_word, word_sums};
 
@@ -16,11 +17,7 @@ pub fn reduce_all(f: u64, n: u32, list: &mut [u64])
     requires { Degree f n }
     ensures { list.new ≡ map (rem f n) list.old }
 {
-    let mut i: usize = 0;
-    while i < list.len() {
-        list[i] = element_of(f, n, list[i]);
-        i += 1;
-    }
+    convert_each(list, |word| element_of(f, n, word));
 }
 
 // The coordinates of x^i, which is y modulo f: below n it is an element, and its coordinates are row i.
@@ -56,7 +53,5 @@ pub fn convert_words(rows: &[u64; LIMIT], f: u64, n: u32, list: &mut [u64])
 {
     let mut sums: [u64; WORD_SUMS] = [0; WORD_SUMS];
     word_sums(word_rows(rows, f, n), &mut sums);
-    for i in 0..list.len() {
-        list[i] = sum_of_word(&sums, list[i]);
-    }
+    convert_each(list, |word| sum_of_word(&sums, word));
 }

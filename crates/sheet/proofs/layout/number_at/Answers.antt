@@ -1,64 +1,49 @@
--- `sheet::layout::number_at` meets its contract: the goals that the check leaves. Its loop is told in `Invariants.antt`. Assumes nothing.
-use mathlib.Core.Path.{◌≡◌, sym, ap, ◌∙◌}
-use mathlib.Core.List.{List}
-use Prim.Native.Nat.{ℕ, ◌+◌, ◌-◌, ◌*◌, ◌^◌, ◌≤◌, ◌<◌}
-use native.Mathlib.Nat.{add-zero}
-use native.Mathlib.Omega.{arith}
-use lib.ListN.{length, get_or, take, drop}
-use lib.Pow.{pow-add, pow_mono}
+-- `sheet::layout::number_at` meets its contract: eight bytes, of which the first are read and the rest are zeros, hold what those that
+-- were read hold. Assumes nothing.
+use Rattle.std.proofs.Common.{◌≡◌, refl, ap, ◌∙◌, ◌+◌, ◌-◌, ◌*◌, ◌≤◌, List, ◌++◌, [], ◌∷◌, ℕ, zero, suc, length, take, drop, take_all, replicate, length-append, length-drop, arith}
+use Rattle.std.proofs.Math.Seq.{length-take-le}
+use Rattle.std.specs.Int.{from_le_bytes, w64}
 use Rattle.sheet.specs.Record.{number_in}
 use Rattle.sheet.specs.Bytes.{number_in-cons}
-use Rattle.sheet.proofs.layout.number_at.Invariants.{Held}
 use Rattle.sheet.proofs.layout.number_at.Goals as goal
 
-start : (sheet : List ℕ) (at size : ℕ) → Held sheet at size 0 size
+wide : (bytes : List ℕ) → length bytes ≡ 8 → from_le_bytes w64 bytes ≡ number_in bytes
 unfolding number_in
-start sheet at size = let z : size - size ≡ 0 = omega arith in (omega arith, rw z, rw z (omega arith))
+wide bytes e =
+    let all : take 8 bytes ≡ bytes = take_all 8 bytes (omega arith) in
+    let b0 = number_in-cons bytes 0 7 (omega arith) in
+    let b1 = number_in-cons bytes 1 6 (omega arith) in
+    let b2 = number_in-cons bytes 2 5 (omega arith) in
+    let b3 = number_in-cons bytes 3 4 (omega arith) in
+    let b4 = number_in-cons bytes 4 3 (omega arith) in
+    let b5 = number_in-cons bytes 5 2 (omega arith) in
+    let b6 = number_in-cons bytes 6 1 (omega arith) in
+    let b7 = number_in-cons bytes 7 0 (omega arith) in
+    omega (arith, ap number_in all, b0, b1, b2, b3, b4, b5, b6, b7)
 
-module _ (sheet : List ℕ) (at size number k : ℕ) (fits : at + size ≤ length sheet) (small : size ≤ 8) (test : 0 < k) (inv : Held sheet at size number k) where
-  -- the byte can be brought in
-  room : number < 2 ^ 56
-  room = let h : 8 * (size - k) ≤ 56 = omega arith in omega (arith, inv.2, pow_mono h)
+zeros : (k m : ℕ) → number_in (drop k (replicate m 0)) ≡ 0
+unfolding number_in
+zeros zero zero = refl
+zeros zero (suc m) = let ih = zeros zero m in omega (arith, ih)
+zeros (suc k) zero = refl
+zeros (suc k) (suc m) = zeros k m
 
-  turn : get_or sheet (at + (k - 1)) 0 < 256 → Held sheet at size (number * 256 + get_or sheet (at + (k - 1)) 0) (k - 1)
-  turn b =
-      let s : size - (k - 1) ≡ size - k + 1 = omega (arith, inv.0) in
-      let t : at + k ≡ at + (k - 1) + 1 = omega arith in
-      let p : 2 ^ (8 * (size - (k - 1))) ≡ 2 ^ (8 * (size - k)) * 256 =
-      (let e : 8 * (size - (k - 1)) ≡ 8 * (size - k) + 8 = omega (arith, inv.0) in ap (λ (x : ℕ). 2 ^ x) e ∙ pow-add 2 (8 * (size - k)) 8) in (
-        omega (arith, inv.0),
-        rw s (sym (number_in-cons sheet (at + (k - 1)) (size - k) (omega (arith, inv.0)) ∙ ap (λ (x : ℕ). x * 256 + get_or sheet (at + (k - 1)) 0) (rw t at (sym inv.1)))),
-        omega (arith, inv.2),
-      )
+before_zeros : (bytes rest : List ℕ) → number_in rest ≡ 0 → number_in (bytes ++ rest) ≡ number_in bytes
+unfolding number_in
+before_zeros [] rest z = z
+before_zeros (b ∷ bytes) rest z = ap (λ (x : ℕ). b + 256 * x) (before_zeros bytes rest z)
 
-done : (sheet : List ℕ) (at size number k : ℕ) → k ≡ 0 → Held sheet at size number k → number ≡ number_in (take size (drop at sheet))
-done sheet at size number k z inv = let s : size - k ≡ size = omega arith in inv.1 ∙ rw (s, z, add-zero)
-
-pub loop-k-init : goal.loop-k-init
-loop-k-init c = start c.args.sheet.now c.args.at c.args.size
-
-pub overflow_mul-number : goal.overflow_mul-number
-overflow_mul-number c =
-    omega (arith, room c.args.sheet.now c.args.at c.args.size c.loop-k.number c.loop-k.k c.requires.0 c.requires.1 c.loop-k-test.true c.loop-k.invariant)
-
-pub overflow_add-number : goal.overflow_add-number
-overflow_add-number c = omega (arith, c.requires.0, c.loop-k.invariant.0)
-
-pub bounds-sheet-at : goal.bounds-sheet-at
-bounds-sheet-at c = omega (arith, c.requires.0, c.loop-k.invariant.0)
-
-pub overflow_cast-number : goal.overflow_cast-number
-overflow_cast-number c = omega (arith, c.shared_slice_known-1.given (c.args.at + (c.loop-k.k - 1)))
-
-pub overflow_add-number-in-loop-k : goal.overflow_add-number-in-loop-k
-overflow_add-number-in-loop-k c =
-    omega (arith, c.shared_slice_known-1.given (c.args.at + (c.loop-k.k - 1)), room c.args.sheet.now c.args.at c.args.size c.loop-k.number c.loop-k.k c.requires.0 c.requires.1 c.loop-k-test.true c.loop-k.invariant)
-
-pub loop-k-preserved : goal.loop-k-preserved
-loop-k-preserved c =
-    turn c.args.sheet.now c.args.at c.args.size c.loop-k.number c.loop-k.k c.requires.0 c.requires.1 c.loop-k-test.true c.loop-k.invariant
-    (omega (arith, c.shared_slice_known-1.given (c.args.at + (c.loop-k.k - 1))))
+filled : (copied part : List ℕ) (size : ℕ) → copied ≡ part → length copied ≡ size → size ≤ 8 → from_le_bytes w64 (copied ++ drop size (replicate 8 0)) ≡ number_in part
+filled copied part size e l fits =
+    wide (copied ++ drop size (replicate 8 0)) (length-append copied (drop size (replicate 8 0)) ∙ rw (l, length-drop) (omega arith))
+    ∙ before_zeros copied (drop size (replicate 8 0)) (zeros size 8) ∙ ap number_in e
 
 pub returns : goal.returns
 returns c =
-    done c.args.sheet.now c.args.at c.args.size c.loop-k.number c.loop-k.k (omega arith) c.loop-k.invariant
+    let part : List ℕ = drop c.args.at c.args.sheet.now in
+    let s : c.args.at + c.args.size - c.args.at ≡ c.args.size = omega arith in
+    c.from_le_bytes.ensures
+    ∙ filled c.copy_from_slice.new.self (take c.args.size part) c.args.size
+    (c.copy_from_slice.ensures.after ∙ ap (λ (k : ℕ). take k part) s)
+    (c.copy_from_slice.ensures.len ∙ length-take-le c.args.size (replicate 8 0) (omega (arith, c.requires.1)))
+    c.requires.1

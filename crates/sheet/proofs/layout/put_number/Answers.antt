@@ -1,54 +1,52 @@
 -- `sheet::layout::put_number` meets its contract: the goals that the check leaves. Its loop is told in `Invariants.antt`. Assumes nothing.
-use mathlib.Core.Path.{◌≡◌, sym}
-use mathlib.Core.List.{List}
-use Prim.Native.Nat.{ℕ, ◌+◌, ◌/◌, ◌%◌, ◌^◌, ◌≤◌, ◌<◌}
-use native.Mathlib.Nat.{div-one}
-use native.Mathlib.Omega.{arith}
-use lib.ListN.{length, set}
+use Rattle.std.proofs.Common.{◌≡◌, refl, sym, ap, ◌∙◌, ◌+◌, ◌-◌, ◌/◌, ◌%◌, ◌^◌, ◌≤◌, ◌<◌, List, append_assoc, [], ℕ, length, take, drop, set, take_all, arith, div-one, length-drop}
+use Rattle.std.proofs.Math.Seq.{length-take-le, drop-drop}
+use Rattle.std.proofs.lemmas.List.{take_more_set, length-set}
+use borrow.Rule.Slice.PartMut.{put_mid}
 use Rattle.sheet.specs.Record.{bytes_of}
-use Rattle.sheet.specs.Bytes.{pasted, pasted-none, pasted_length, pasted-set, bytes_of-length, bytes_of-next, byte_next}
-use Rattle.sheet.proofs.layout.put_number.Invariants.{Put}
+use Rattle.sheet.specs.Bytes.{pasted, bytes_of-length, bytes_of-next, byte_next}
 use Rattle.sheet.proofs.layout.put_number.Goals as goal
 
-none : (start : List ℕ) (at size number : ℕ) → Put start at size number start number 0
+part_size : (buffer : List ℕ) (at size : ℕ) → at + size ≤ length buffer → length (take (at + size - at) (drop at buffer)) ≡ size
+part_size buffer at size fits =
+    let e : at + size - at ≡ size = omega arith in
+    rw e (length-take-le size (drop at buffer) (rw length-drop (omega arith)))
+
+none : (number : ℕ) → [] ≡ bytes_of 0 number
 unfolding bytes_of
-none start at size number = (omega arith, pasted-none start at, sym (div-one number))
+none number = refl
 
-module _ (start : List ℕ) (at size number : ℕ) (buffer : List ℕ) (rest k : ℕ) (fits : at + size ≤ length start) (inv : Put start at size number buffer rest k) where
-  put-length : length buffer ≡ length start
-  put-length = rw inv.1 (pasted_length start at (bytes_of k number) (rw bytes_of-length (omega (arith, inv.0))))
+turn : (part : List ℕ) (number rest k : ℕ) → k < length part → take k part ≡ bytes_of k number → rest ≡ number / 256 ^ k
+    → take (k + 1) (set part k (rest % 256)) ≡ bytes_of (k + 1) number
+turn part number rest k h put left = take_more_set part k (rest % 256) h ∙ rw (put, left, bytes_of-next) refl
 
-  turn : k < size → Put start at size number (set buffer (at + k) (rest % 256)) (rest / 256) (k + 1)
-  turn test =
-      let e : at + length (bytes_of k number) ≡ at + k = rw bytes_of-length in
-      let s : set (pasted start at (bytes_of k number)) (at + k) (number / 256 ^ k % 256) ≡ pasted start at (bytes_of (k + 1) number) =
-      rw (← e, bytes_of-next) (pasted-set start at (bytes_of k number) (number / 256 ^ k % 256) (rw e (omega arith))) in
-      (omega arith, rw (inv.1, inv.2) s, rw inv.2 (byte_next number k))
+done : (buffer part : List ℕ) (at size number k : ℕ) → at + size ≤ length buffer → length part ≡ size → size ≤ k → k ≤ size → take k part ≡ bytes_of k number
+    → put_mid at (at + size - at) buffer part ≡ pasted buffer at (bytes_of size number)
+unfolding pasted
+done buffer part at size number k fits e h most put =
+    let s : at + size - at ≡ size = omega arith in
+    let n : k ≡ size = omega arith in
+    let p : part ≡ bytes_of size number = sym (take_all k part (omega arith)) ∙ put ∙ ap (λ (j : ℕ). bytes_of j number) n in
+    rw (s, p, bytes_of-length, drop-drop) (sym (append_assoc (take at buffer) (bytes_of size number) (drop (at + size) buffer)))
 
-  done : size ≤ k → buffer ≡ pasted start at (bytes_of size number)
-  done test = let e : k ≡ size = omega (arith, inv.0) in rw e at inv.1
+pub loop-byte-init : goal.loop-byte-init
+loop-byte-init c = record {
+  size = part_size c.args.buffer.now c.args.at c.args.size c.requires;
+  put = none c.args.number;
+  left = sym (div-one c.args.number);
+}
 
-pub loop-k-init : goal.loop-k-init
-loop-k-init c = none c.args.buffer.now c.args.at c.args.size c.args.number
-
-pub overflow_add-buffer : goal.overflow_add-buffer
-overflow_add-buffer c = omega (arith, c.requires)
-
-pub bounds-buffer-at : goal.bounds-buffer-at
-bounds-buffer-at c =
-    omega (arith, c.requires, put-length c.args.buffer.now c.args.at c.args.size c.args.number c.loop-k.buffer c.loop-k.rest c.loop-k.k c.requires c.loop-k.invariant)
-
-pub overflow_add-k : goal.overflow_add-k
-overflow_add-k c = omega (arith, c.requires)
-
-pub loop-k-preserved : goal.loop-k-preserved
-loop-k-preserved c =
-    turn c.args.buffer.now c.args.at c.args.size c.args.number c.loop-k.buffer c.loop-k.rest c.loop-k.k c.requires c.loop-k.invariant c.loop-k-test.true
-
-pub shape_of-buffer : goal.shape_of-buffer
-shape_of-buffer c =
-    put-length c.args.buffer.now c.args.at c.args.size c.args.number c.loop-k.buffer c.loop-k.rest c.loop-k.k c.requires c.loop-k.invariant
+pub loop-byte-preserved : goal.loop-byte-preserved
+loop-byte-preserved c =
+    let fits : c.loop-byte.byte-index < length c.loop-byte.byte-items = omega (arith, c.loop-byte.auto.byte-items, c.loop-byte-test.true) in
+    record {
+      size = length-set c.loop-byte.byte-items c.loop-byte.byte-index _ ∙ c.loop-byte.invariant.size;
+      put = turn c.loop-byte.byte-items c.args.number c.loop-byte.rest c.loop-byte.byte-index fits c.loop-byte.invariant.put c.loop-byte.invariant.left;
+      left = rw c.loop-byte.invariant.left (byte_next c.args.number c.loop-byte.byte-index);
+    }
 
 pub returns : goal.returns
 returns c =
-    done c.args.buffer.now c.args.at c.args.size c.args.number c.loop-k.buffer c.loop-k.rest c.loop-k.k c.requires c.loop-k.invariant c.loop-k-test.false
+    let e = part_size c.args.buffer.now c.args.at c.args.size c.requires in
+    done c.args.buffer.now c.loop-byte.byte-items c.args.at c.args.size c.args.number c.loop-byte.byte-index c.requires c.loop-byte.invariant.size
+    (omega (arith, e, c.loop-byte-test.false)) (omega (arith, e, c.loop-byte.auto.byte-index-end)) c.loop-byte.invariant.put

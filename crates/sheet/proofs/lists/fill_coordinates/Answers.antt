@@ -26,4 +26,4 @@ convert_unreduced-requires c = named-range c.args.sheet.now c.requires.0 c.polyn
 
 pub returns : goal.returns
 returns c =
-    c.convert_unreduced.ensures ∙ named-words c.args.sheet.now c.args.from.now c.polynomial_of.ensures c.load_rows-rows.ensures c.copy.ensures
+    c.convert_unreduced.ensures ∙ named-words c.args.sheet.now c.args.from.now c.polynomial_of.ensures c.load_rows-rows.ensures c.copy_from_slice.ensures.after

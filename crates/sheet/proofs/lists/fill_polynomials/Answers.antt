@@ -1,6 +1,6 @@
 -- `sheet::lists::fill_polynomials` meets its contract: the rows that were loaded convert as the sheet's own.
 -- Assumes nothing.
-use mathlib.Core.Path.{◌≡◌, ap, ◌∙◌}
+use mathlib.Core.Path.{◌≡◌, sym, ap, ◌∙◌}
 use mathlib.Core.List.{List, map}
 use Prim.Native.Nat.{ℕ, ◌^◌, ◌<◌}
 use native.Mathlib.Omega.{arith}
@@ -27,13 +27,13 @@ copied-small e small = rw e small
 pub load_rows-rows-requires : goal.load_rows-rows-requires
 load_rows-rows-requires c = (c.requires.0, omega arith)
 
-pub copy-requires : goal.copy-requires
-copy-requires c = c.requires.1
+pub copy_from_slice-requires : goal.copy_from_slice-requires
+copy_from_slice-requires c = sym c.requires.1
 
 pub convert_values-requires : goal.convert_values-requires
 convert_values-requires c =
-    copied-small c.copy.ensures (λ i l. omega (arith, c.requires.2 i l, pow_mono c.requires.0.size.most))
+    copied-small c.copy_from_slice.ensures.after (λ i l. omega (arith, c.requires.2 i l, pow_mono c.requires.0.size.most))
 
 pub returns : goal.returns
 returns c =
-    c.convert_values.ensures ∙ ap (map (comb c.load_rows-rows.result)) c.copy.ensures ∙ map-loaded c.args.sheet.now c.load_rows-rows.ensures c.args.from.now
+    c.convert_values.ensures ∙ ap (map (comb c.load_rows-rows.result)) c.copy_from_slice.ensures.after ∙ map-loaded c.args.sheet.now c.load_rows-rows.ensures c.args.from.now

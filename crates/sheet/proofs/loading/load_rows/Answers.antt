@@ -34,9 +34,6 @@ offset_bounds-rows-i c = omega (arith, c.requires.0.size.most)
 pub bounds-rows-i : goal.bounds-rows-i
 bounds-rows-i c = omega (arith, c.requires.0.size.most)
 
-pub overflow_add-i-in-loop-i : goal.overflow_add-i-in-loop-i
-overflow_add-i-in-loop-i c = omega (arith, c.requires.0.size.most)
-
 pub loop-i-preserved : goal.loop-i-preserved
 unfolding column_in
 loop-i-preserved c =

@@ -1,7 +1,7 @@
 -- `sheet::loading::load_rows` meets its contract. The invariant: the rows below i are read.
--- The measure is the number of records left. Assumes nothing.
+-- Assumes nothing.
 use mathlib.Core.List.{List}
-use Prim.Native.Nat.{ℕ, ◌-◌, ◌≤◌}
+use Prim.Native.Nat.{ℕ, ◌≤◌}
 use Rattle.normal.specs.Filling.{Filled}
 use Rattle.sheet.specs.Record.{record_count, word_size, column_in}
 use Rattle.sheet.proofs.loading.load_rows.Given as goal
@@ -11,6 +11,3 @@ row sheet at i = column_in sheet i at word_size
 
 abbrev pub invariant-loop-i : goal.invariant-loop-i
 invariant-loop-i l = (l.i ≤ record_count l.sheet) × Filled l.rows l.i (row l.sheet l.at)
-
-abbrev pub decreases-loop-i : goal.decreases-loop-i
-decreases-loop-i l = l.n - l.i

@@ -16,25 +16,27 @@ put_basis-summary-requires c =
     let r = rebuilt_element c.args.sheet.now c.args.f c.args.n c.args.element c.requires.0 in
     (r, omega (arith, r.in_range.most))
 
-pub first_differing-place-requires : goal.first_differing-place-requires
-first_differing-place-requires c =
+pub first_differing-requires : goal.first_differing-requires
+first_differing-requires c =
     let z = c.requires.0.shaped.size in
     let e = c.put_basis-summary.ensures.written ∙ sheet_written c.args.f c.args.n c.args.element c.args.basis _ c.requires.1 in
     (rw c.requires.0.count z.most, rw c.requires.0.count (omega (arith, z.whole)), rebuilt_room c.args.sheet.now c.args.f c.args.n c.args.element c.requires.0 _ c.put_basis-summary.new.buffer e)
 
-pub returns-then-place-count : goal.returns-then-place-count
-returns-then-place-count c =
+pub returns-in-Some : goal.returns-in-Some
+returns-in-Some c =
     let e = c.put_basis-summary.ensures.written ∙ sheet_written c.args.f c.args.n c.args.element c.args.basis _ c.requires.1 in
-    let place = c.first_differing-place.ensures ∙ rebuilt_differing c.args.sheet.now c.args.f c.args.n c.args.element c.requires.0 _ c.put_basis-summary.new.buffer e in
-    let v : first_of (differ_rules c.args.sheet.now (rebuilt_from c.args.sheet.now) 0 c.args.n) ≡ refuse 10 c.first_differing-place.result =
-    differ_verdict c.args.sheet.now (rebuilt_from c.args.sheet.now) 0 c.args.n (omega (arith, place, c.if-place-count.true)) ∙ ap (refuse 10) (sym place) in
+    let same = rebuilt_differing c.args.sheet.now c.args.f c.args.n c.args.element c.requires.0 _ c.put_basis-summary.new.buffer e in
+    let place = sym same ∙ c.in-Some.ensures.1 in
+    let v : first_of (differ_rules c.args.sheet.now (rebuilt_from c.args.sheet.now) 0 c.args.n) ≡ refuse 10 c.in-Some.place =
+    differ_verdict c.args.sheet.now (rebuilt_from c.args.sheet.now) 0 c.args.n (omega (arith, place, c.in-Some.ensures.0)) ∙ ap (refuse 10) place in
     answer-refused issued.Refused _ v
 
-pub returns : goal.returns
-returns c =
+pub returns-in-None : goal.returns-in-None
+returns-in-None c =
     let e = c.put_basis-summary.ensures.written ∙ sheet_written c.args.f c.args.n c.args.element c.args.basis _ c.requires.1 in
-    let place = c.first_differing-place.ensures ∙ rebuilt_differing c.args.sheet.now c.args.f c.args.n c.args.element c.requires.0 _ c.put_basis-summary.new.buffer e in
+    let same = rebuilt_differing c.args.sheet.now c.args.f c.args.n c.args.element c.requires.0 _ c.put_basis-summary.new.buffer e in
+    let place = sym same ∙ c.in-None.ensures in
     ap issued.Done
     (c.put_basis-summary.ensures.summary ∙ summary_table c.args.f c.args.n c.args.element c.args.basis c.requires.1
     ∙ rebuilt_summary c.args.sheet.now c.args.f c.args.n c.args.element c.requires.0)
-    ∙ answer-clear issued.Refused _ (same_verdict c.args.sheet.now (rebuilt_from c.args.sheet.now) 0 c.args.n (omega (arith, place, c.if-place-count.false)))
+    ∙ answer-clear issued.Refused _ (same_verdict c.args.sheet.now (rebuilt_from c.args.sheet.now) 0 c.args.n (omega (arith, place)))

@@ -16,8 +16,10 @@ pub record_differs-requires : goal.record_differs-requires
 record_differs-requires c = (omega (arith, c.requires.0), omega (arith, c.requires.1), omega (arith, c.requires.2))
 
 pub returns-then-record_differs : goal.returns-then-record_differs
-returns-then-record_differs c =
-    sym (differ-found c.args.sheet.now c.args.rebuilt.now c.loop-i.i c.args.n c.loop-i-test.true (sym c.record_differs.ensures ∙ c.if-record_differs.true)) ∙ c.loop-i.invariant.1
+returns-then-record_differs c = (
+  c.loop-i-test.true,
+  sym c.loop-i.invariant.1 ∙ differ-found c.args.sheet.now c.args.rebuilt.now c.loop-i.i c.args.n c.loop-i-test.true (sym c.record_differs.ensures ∙ c.if-record_differs.true),
+)
 
 pub loop-i-preserved : goal.loop-i-preserved
 loop-i-preserved c =
@@ -25,4 +27,5 @@ loop-i-preserved c =
 
 pub returns : goal.returns
 returns c =
-    sym (differ-none c.args.sheet.now c.args.rebuilt.now c.loop-i.i c.args.n c.loop-i-test.false) ∙ c.loop-i.invariant.1
+    let e : c.loop-i.i ≡ c.args.n = omega (arith, c.loop-i.invariant.0) in
+    sym c.loop-i.invariant.1 ∙ differ-none c.args.sheet.now c.args.rebuilt.now c.loop-i.i c.args.n c.loop-i-test.false ∙ e

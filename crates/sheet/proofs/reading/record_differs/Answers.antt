@@ -1,62 +1,24 @@
--- `sheet::reading::record_differs` meets its contract: the goals that the check leaves. Its loop is told in `Invariants.antt`. Assumes nothing.
-use mathlib.Core.Path.{◌≡◌, refl, sym, ◌∙◌}
-use mathlib.Core.Bool.{true, false}
-use mathlib.Core.List.{List}
-use Prim.Native.Nat.{ℕ, ◌+◌, ◌*◌, ◌≤◌, ◌<◌}
-use native.Mathlib.Omega.{arith}
-use lib.ListN.{length, get_or, drop}
+-- `sheet::reading::record_differs` meets its contract: two lists of bytes are equal where each byte of them is.
+-- Assumes nothing.
+use Rattle.std.proofs.Common.{◌≡◌, refl, ap, ◌∙◌, ◌+◌, ◌-◌, ◌*◌, Bool, not, ◌&&◌, eqb, List, [], ◌∷◌, ℕ, take, drop, arith}
+use lib.Pointwise.{pointwise}
 use Rattle.sheet.specs.Record.{record_size, record_at}
 use Rattle.sheet.specs.Orders.{same}
-use Rattle.sheet.specs.Reading.{differs, same-other, same_next, same_end, record_at_byte, record_at-length}
+use Rattle.sheet.specs.Reading.{differs}
 use Rattle.sheet.proofs.reading.record_differs.Goals as goal
 
-module _ (x y : List ℕ) (i k : ℕ) (hx : record_size * i + record_size ≤ length x) (hy : record_size * i + record_size ≤ length y)
-    (inv : same (drop k (record_at x i)) (drop k (record_at y i)) ≡ same (record_at x i) (record_at y i)) where
-  lx : length (record_at x i) ≡ 32
-  lx = record_at-length x i hx
+byte_by_byte : (xs ys : List ℕ) → pointwise eqb xs ys ≡ same xs ys
+unfolding same
+byte_by_byte [] [] = refl
+byte_by_byte [] (y ∷ ys) = refl
+byte_by_byte (x ∷ xs) [] = refl
+byte_by_byte (x ∷ xs) (y ∷ ys) = ap (λ (b : Bool). eqb x y && b) (byte_by_byte xs ys)
 
-  ly : length (record_at y i) ≡ 32
-  ly = record_at-length y i hy
-
-  other : k < 32 → (get_or x (32 * i + k) 0 ≡ get_or y (32 * i + k) 0 → ⊥) → true ≡ differs x y i
-  unfolding differs
-  other h e =
-      sym (rw (sym inv ∙ same-other (record_at x i) (record_at y i) k (omega (arith, lx)) (omega (arith, ly)) (λ p. e (sym (record_at_byte x i k h) ∙ p ∙ record_at_byte y i k h))))
-
-  next : k < 32 → get_or x (32 * i + k) 0 ≡ get_or y (32 * i + k) 0 → same (drop (k + 1) (record_at x i)) (drop (k + 1) (record_at y i)) ≡ same (record_at x i) (record_at y i)
-  next h e =
-      same_next (record_at x i) (record_at y i) k (omega (arith, lx)) (omega (arith, ly)) (record_at_byte x i k h ∙ e ∙ sym (record_at_byte y i k h)) ∙ inv
-
-  end : 32 ≤ k → false ≡ differs x y i
-  unfolding differs
-  end h = sym (rw (sym inv ∙ same_end (record_at x i) (record_at y i) k (omega (arith, lx)) (omega (arith, ly))))
-
-pub overflow_mul-at : goal.overflow_mul-at
-overflow_mul-at c = omega (arith, c.requires.0)
-
-pub loop-k-init : goal.loop-k-init
-loop-k-init c = (omega arith, refl)
-
-pub overflow_add-at : goal.overflow_add-at
-overflow_add-at c = omega (arith, c.requires.0)
-
-pub bounds-sheet-at : goal.bounds-sheet-at
-bounds-sheet-at c = omega (arith, c.requires.1)
-
-pub overflow_add-at-in-loop-k : goal.overflow_add-at-in-loop-k
-overflow_add-at-in-loop-k c = omega (arith, c.requires.0)
-
-pub bounds-rebuilt-at : goal.bounds-rebuilt-at
-bounds-rebuilt-at c = omega (arith, c.requires.2)
-
-pub returns-then-sheet-at : goal.returns-then-sheet-at
-returns-then-sheet-at c =
-    other c.args.sheet.now c.args.rebuilt.now c.args.i c.loop-k.k c.requires.1 c.requires.2 c.loop-k.invariant.1 c.loop-k-test.true c.if-sheet-at.true
-
-pub loop-k-preserved : goal.loop-k-preserved
-loop-k-preserved c =
-    (omega arith, next c.args.sheet.now c.args.rebuilt.now c.args.i c.loop-k.k c.requires.1 c.requires.2 c.loop-k.invariant.1 c.loop-k-test.true c.if-sheet-at.false)
+slices : (sheet rebuilt : List ℕ) (i : ℕ) → not (pointwise eqb (take (record_size * i + record_size - record_size * i) (drop (record_size * i) sheet)) (take (record_size * i + record_size - record_size * i) (drop (record_size * i) rebuilt))) ≡ differs sheet rebuilt i
+unfolding differs record_at
+slices sheet rebuilt i =
+    let e : record_size * i + record_size - record_size * i ≡ record_size = omega arith in
+    rw e (ap not (byte_by_byte (take record_size (drop (record_size * i) sheet)) (take record_size (drop (record_size * i) rebuilt))))
 
 pub returns : goal.returns
-returns c =
-    end c.args.sheet.now c.args.rebuilt.now c.args.i c.loop-k.k c.requires.1 c.requires.2 c.loop-k.invariant.1 c.loop-k-test.false
+returns c = c.ne.ensures ∙ slices c.args.sheet.now c.args.rebuilt.now c.args.i

@@ -44,9 +44,6 @@ pub put_record-requires : goal.put_record-requires
 put_record-requires c =
     omega (arith, c.requires.1, put-length c.args.buffer.now c.loop-i.buffer c.loop-i.i c.args.n c.args.tail c.args.conjugates c.args.inverse c.args.table c.requires.1 c.loop-i.invariant.0 c.loop-i.invariant.1)
 
-pub overflow_add-i : goal.overflow_add-i
-overflow_add-i c = omega (arith, c.requires.0)
-
 pub loop-i-preserved : goal.loop-i-preserved
 loop-i-preserved c = (
   omega arith,

