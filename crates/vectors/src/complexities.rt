@@ -1,7 +1,6 @@
 // The least complexity of a normal basis, a line for each degree 2 to 20: source document 000's normal basis column, divided by the degree.
-use super::printing::{say, say_complexity};
-use search::Search;
-use streams::Host;
+use super::answers::{TableRow, found};
+use std::io;
 
 // A polynomial that is accepted, for each degree from 2 on.
 const FIELDS: [u64; 19] = [
@@ -11,26 +10,22 @@ const FIELDS: [u64; 19] = [
 
 // The least complexity in a whole field, or 0.
 fn least_complexity(f: u64, last: u64) -> u64 {
-    match search::search(f, 0, last) {
-        Search::Refused(_) => 0,
-        Search::Nothing => 0,
-        Search::Found(best) => best.complexity as u64,
+    match found(search::search(f, 0, last)) {
+        Ok(Some(best)) => u64::from(best.complexity),
+        Ok(None) | Err(_) => 0,
     }
 }
 
-fn print_least<H: Host>(host: &H) -> bool {
-    for n in 2usize..21 {
+fn print_least(rt: &impl Print) -> io::Result<()> {
+    for n in 2..21 {
         let last = u64::MAX >> (64 - n);
-        if !say_complexity(host, n as u64, least_complexity(FIELDS[n - 2], last)) {
-            return false;
-        }
+        let least = least_complexity(FIELDS[n as usize - 2], last);
+        println!(rt; "{}", TableRow(n, least))?;
     }
-    true
+    Ok(())
 }
 
-pub(crate) fn run<H: Host>(host: &H) -> bool {
-    say(
-        host,
-        b"least complexities, source document 000: degree, complexity\n",
-    ) && print_least(host)
+pub(crate) fn run(rt: &impl Print) -> io::Result<()> {
+    println!(rt; "least complexities, source document 000: degree, complexity")?;
+    print_least(rt)
 }

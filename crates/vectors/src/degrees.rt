@@ -1,12 +1,11 @@
 // Words that arrive unreduced (document 02, §6) at every degree 2 to 46. On a sheet the remainder is modulo x^n and what the sheet's bytes 2-7
 // add to it, whatever polynomial that is: so each sheet is tried as the builder wrote it, and with other bytes there.
-ghost use Rattle.std.specs.Prelude.{◌≤◌, ◌<◌};
+ghost use Rattle.std.specs.Prelude.{ℕ, ◌≤◌};
 
-use super::printing::{end_line, say, say_number};
-use super::remainders::{Asked, Counted, count_on};
-use gf2::LIMIT;
+use super::built::{Built, LARGEST};
+use super::remainders::Trial;
 use sheet::RECORD;
-use streams::Host;
+use std::io;
 
 // For each degree 2 to 46 the smallest polynomial in whose field x is normal.
 const FIELDS: [u64; 45] = [
@@ -59,111 +58,103 @@ const FIELDS: [u64; 45] = [
 
 const X: u64 = 2;
 
-const ROOM: usize = RECORD * LIMIT;
+// A short list is converted word by word, and a long one by tables.
+const SHORT: usize = 40;
 
-// What a polynomial has beside x^n: what the builder wrote; nothing, so that x divides it; 1, so that x + 1 does; or all smaller powers of x,
-// where at most degrees something divides it.
-#[derive(Clone, Copy)]
-enum Tail {
-    Built,
-    Nothing,
-    One,
-    All,
-}
-
-fn tail_of(tail: Tail, n: u32) -> u64
-    requires { (2 ≤ n) × (n ≤ 46) }
-{
-    match tail {
-        Tail::Built => FIELDS[n as usize - 2] ^ (1u64 << n),
-        Tail::Nothing => 0,
-        Tail::One => 1,
-        Tail::All => u64::MAX >> (64 - n),
-    }
-}
-
-// The byte at this place of a record, if the record's bytes 2-7 are to hold the tail.
-fn byte_with(tail: u64, at: usize, byte: u8) -> u8
-    requires { at < 32 }
-{
-    if at < 2 {
-        return byte;
-    }
-    if 8 <= at {
-        return byte;
-    }
-    ((tail >> (8 * (at - 2))) % 256) as u8
-}
+const LONG: usize = 60;
 
 // The sheet with the tail in bytes 2-7 of every record.
-fn with_tail(tail: u64, sheet: [u8; ROOM]) -> [u8; ROOM] {
+fn with_tail(tail: u64, sheet: [u8; LARGEST]) -> [u8; LARGEST] {
     let mut bytes = sheet;
-    let mut k: usize = 0;
-    while k < ROOM {
-        bytes[k] = byte_with(tail, k % RECORD, bytes[k]);
-        k += 1;
+    for record in bytes.chunks_exact_mut(RECORD) {
+        record[2..8].copy_from_slice(&tail.to_le_bytes()[..6]);
     }
     bytes
 }
 
-// How many words are as they should be on the sheet of x at degree n, with this tail. The builder's own is written over itself.
-fn count_degree(counted: Counted, tail: Tail, n: u32) -> usize
-    requires { (2 ≤ n) × (n ≤ 46) }
+// How many words are as they should be on the sheet of x in the field of f, of degree n. The sheet is given the polynomial that is made of f
+// and x^n; the builder's own is written over itself.
+fn count_degree<P: Fn(u64, u64) -> u64, C: Fn(&Trial<'_>) -> usize>(
+    f: u64,
+    n: u32,
+    polynomial: &P,
+    count: &C,
+) -> usize
+    requires degree { n ≤ 46 }
+    requires polynomial { P.IsAlwaysCallable polynomial.now }
+    requires count { C.IsAlwaysCallable count.now }
+    requires few { (trial : _) (counted : ℕ) → C.post count.now trial counted → counted ≤ 60 }
     ensures { result ≤ 60 }
 {
-    let mut built = [0u8; ROOM];
-    sheet::build(FIELDS[n as usize - 2], X, &mut built);
-    let rest = tail_of(tail, n);
-    let sheet = with_tail(rest, built);
+    let top = 1u64 << n;
+    let modulus = polynomial(f, top);
+    let sheet = with_tail(modulus ^ top, Built::<LARGEST>::new(f, X).bytes);
     let length = n as usize * RECORD;
-    count_on(counted, &sheet[..length], (1u64 << n) ^ rest, n)
+    count(&Trial::new(&sheet[..length], modulus, n))
 }
 
 // At all degrees together.
-fn count_degrees(counted: Counted, tail: Tail) -> usize {
-    let mut count: usize = 0;
-    let mut n: u32 = 2;
-    while n <= 46 {
-        count += count_degree(counted, tail, n);
-        n += 1;
+fn count_degrees<P: Fn(u64, u64) -> u64, C: Fn(&Trial<'_>) -> usize>(
+    polynomial: &P,
+    count: C,
+) -> usize
+    requires polynomial { P.IsAlwaysCallable polynomial.now }
+    requires count { C.IsAlwaysCallable count }
+    requires few { (trial : _) (counted : ℕ) → C.post count trial counted → counted ≤ 60 }
+{
+    let mut total = 0;
+    for (i, f) in FIELDS.iter().enumerate() {
+        total += count_degree(*f, i as u32 + 2, polynomial, &count);
     }
-    count
-}
-
-fn say_count<H: Host>(host: &H, words: &[u8], counted: Counted, tail: Tail) -> bool {
-    say_number(host, words, count_degrees(counted, tail) as u64)
+    total
 }
 
 // What is counted with every polynomial.
-fn print_tail<H: Host>(host: &H, words: &[u8], tail: Tail) -> bool {
-    say(host, words)
-        && say_count(host, b": product ", Counted::Words(Asked::Product), tail)
-        && say_count(host, b", square ", Counted::Words(Asked::Square), tail)
-        && say_count(
-            host,
-            b", coordinates ",
-            Counted::Words(Asked::Coordinates),
-            tail,
-        )
-        && say_count(host, b", return trip ", Counted::Words(Asked::Return), tail)
-        && say_count(host, b", lists of 40 ", Counted::ShortList, tail)
-        && say_count(host, b", lists of 60 ", Counted::LongList, tail)
-        && end_line(host)
+fn print_counts<P: Fn(u64, u64) -> u64>(
+    rt: &impl Print,
+    name: &str,
+    polynomial: P,
+) -> io::Result<()>
+    requires { P.IsAlwaysCallable polynomial }
+{
+    println!(rt;
+        "{name}: product {}, square {}, coordinates {}, return trip {}, lists of 40 {}, lists of 60 {}",
+        count_degrees(
+            &polynomial,
+            |trial| trial.count_words(|word, other| trial.product_holds(word, other))
+        ),
+        count_degrees(
+            &polynomial,
+            |trial| trial.count_words(|word, _| trial.square_holds(word))
+        ),
+        count_degrees(
+            &polynomial,
+            |trial| trial.count_words(|word, _| trial.coordinates_hold(word))
+        ),
+        count_degrees(
+            &polynomial,
+            |trial| trial.count_words(|word, _| trial.return_holds(word))
+        ),
+        count_degrees(&polynomial, |trial| trial.count_list::<SHORT>()),
+        count_degrees(&polynomial, |trial| trial.count_list::<LONG>())
+    )
 }
 
-// 60 words at 45 degrees are 2700, and 40 are 1800. The trace needs a polynomial that is accepted.
-pub(crate) fn run<H: Host>(host: &H) -> bool {
-    say(
-        host,
-        b"60 words at each degree 2 to 46: how many are answered as their remainders\n",
-    ) && say_count(
-        host,
-        b"modulo f: trace ",
-        Counted::Words(Asked::Trace),
-        Tail::Built,
-    ) && end_line(host)
-        && print_tail(host, b"modulo f", Tail::Built)
-        && print_tail(host, b"modulo x^n", Tail::Nothing)
-        && print_tail(host, b"modulo x^n + 1", Tail::One)
-        && print_tail(host, b"modulo x^n + .. + 1", Tail::All)
+// 60 words at 45 degrees are 2700, and 40 are 1800. The trace needs a polynomial that is accepted. The others have beside x^n nothing, so
+// that x divides them; 1, so that x + 1 does; or all smaller powers of x, where at most degrees something divides them.
+pub(crate) fn run(rt: &impl Print) -> io::Result<()> {
+    println!(rt; "60 words at each degree 2 to 46: how many are answered as their remainders")?;
+    let traces = count_degrees(
+        &|f, _| f,
+        |trial| trial.count_words(|word, _| trial.trace_holds(word)),
+    );
+    println!(rt; "modulo f: trace {traces}")?;
+    print_counts(rt, "modulo f", |f, _| f)?;
+    print_counts(rt, "modulo x^n", |_, top| top)?;
+    print_counts(rt, "modulo x^n + 1", |_, top| top ^ 1)?;
+    print_counts(
+        rt,
+        "modulo x^n + .. + 1",
+        |_, top| top ^ top.wrapping_sub(1),
+    )
 }

@@ -1,10 +1,9 @@
 // Source document 001, table 5: generators of normal bases of the least complexity, a line for each degree 40 to 46. "Each number i in the
 // set in the second column represents the term x^i appearing in the minimal polynomial of the basis": in the field of that polynomial x is
 // such a generator.
-use super::printing::{say, say_complexity, say_refusal};
-use gf2::LIMIT;
-use sheet::{Issued, RECORD};
-use streams::Host;
+use super::answers::{Shown, TableRow};
+use super::built::{Built, LARGEST};
+use std::io;
 
 const ROW_40: u64 = 1 << 40
     | 1 << 39
@@ -163,30 +162,16 @@ const ROWS: [u64; 7] = [ROW_40, ROW_41, ROW_42, ROW_43, ROW_44, ROW_45, ROW_46];
 const X: u64 = 2;
 
 // The basis of x in the field of f.
-fn print_generator<H: Host>(host: &H, f: u64) -> bool {
-    let mut sheet = [0u8; RECORD * LIMIT];
-    match sheet::build(f, X, &mut sheet) {
-        Issued::Refused(refusal) => say_refusal(host, refusal),
-        Issued::Done(summary) => say_complexity(
-            host,
-            summary.degree as u64,
-            summary.complexity as u64,
-        ),
-    }
+fn print_generator(rt: &impl Print, f: u64) -> io::Result<()> {
+    let basis = Built::<LARGEST>::new(f, X).answer;
+    let row = basis.map(|basis| TableRow(basis.degree, u64::from(basis.complexity)));
+    println!(rt; "{}", Shown(row))
 }
 
-fn print_generators<H: Host>(host: &H) -> bool {
+pub(crate) fn run(rt: &impl Print) -> io::Result<()> {
+    println!(rt; "generators of table 5, source document 001: degree, complexity")?;
     for f in &ROWS {
-        if !print_generator(host, *f) {
-            return false;
-        }
+        print_generator(rt, *f)?;
     }
-    true
-}
-
-pub(crate) fn run<H: Host>(host: &H) -> bool {
-    say(
-        host,
-        b"generators of table 5, source document 001: degree, complexity\n",
-    ) && print_generators(host)
+    Ok(())
 }

@@ -16,6 +16,8 @@
 //   degrees        such words at every degree, counted by remainders
 #![tactic(auto)]
 
+mod answers;
+mod built;
 mod checks;
 mod complexities;
 mod conversions;
@@ -23,7 +25,6 @@ mod degrees;
 mod divisions;
 mod generators;
 mod grades;
-mod printing;
 mod reasons;
 mod records;
 mod remainders;
@@ -32,25 +33,32 @@ mod sheets;
 mod texts;
 mod unreduced;
 
-use streams::{Host, done_if, end, finish_output};
+use std::io;
+use streams::{cannot, done_if, end, finish_output};
 
-fn run<H: Host>(host: &H) -> bool {
-    complexities::run(host)
-        && generators::run(host)
-        && sheets::run(host)
-        && conversions::run(host)
-        && divisions::run(host)
-        && checks::run(host)
-        && searches::run(host)
-        && grades::run(host)
-        && texts::run(host)
-        && reasons::run(host)
-        && records::run(host)
-        && unreduced::run(host)
-        && degrees::run(host)
-        && finish_output(host)
+fn run(rt: &impl Print) -> io::Result<()> {
+    complexities::run(rt)?;
+    generators::run(rt)?;
+    sheets::run(rt)?;
+    conversions::run(rt)?;
+    divisions::run(rt)?;
+    checks::run(rt)?;
+    searches::run(rt)?;
+    grades::run(rt)?;
+    texts::run(rt)?;
+    reasons::run(rt)?;
+    records::run(rt)?;
+    unreduced::run(rt)?;
+    degrees::run(rt)
 }
 
 fn main(rt: HostRuntime) {
-    end(&rt, done_if(run(&rt)));
+    let written = match run(&rt) {
+        Ok(()) => finish_output(&rt),
+        Err(why) => {
+            cannot(&rt, b"write", b"standard output", &why);
+            false
+        }
+    };
+    end(&rt, done_if(written));
 }

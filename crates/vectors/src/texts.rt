@@ -3,10 +3,11 @@
 // the ones of all n matrices: 6, 15, 28, 45, 66, 133.
 ghost use Rattle.std.specs.Prelude.{◌≤◌};
 
-use super::printing::{say, say_complexity, say_issued, say_number, say_refusal};
+use super::answers::{Graded, Refused, Shown, TableRow, summary};
+use super::built::{Built, FOUR, THREE, TWO};
 use matrices::{read_matrices, text_size, write_matrices};
-use sheet::{Issued, RECORD};
-use streams::Host;
+use sheet::RECORD;
+use std::io;
 
 // The bytes of a text of degree 2, 3 and 4, and of the second without its last line, which is empty.
 const SIZE_TWO: usize = 2 * (2 * 3 + 1);
@@ -24,117 +25,93 @@ const POLYNOMIALS: [u64; LAST - 1] = [7, 13, 31, 55, 115, 229];
 
 const X: u64 = 2;
 
-// The bytes of a text of the last degree.
+// The bytes of a sheet and of a text of the last degree.
+const SEVEN: usize = LAST * RECORD;
+
 const ROOM: usize = LAST * (LAST * (LAST + 1) + 1);
 
-// The digit 1.
-const ONE: u8 = 49;
-
-// What reading a text for f and the element answers, after the words that say which text it is.
-fn print_reading<H: Host>(host: &H, f: u64, element: u64, words: &[u8], text: &[u8]) -> bool {
-    say_number(host, b"matrices of ", f)
-        && say_number(host, b" and ", element)
-        && say(host, words)
-        && say_issued(host, read_matrices(f, element, text))
+// What reading a text for the f and the element of a sheet answers, after the words that say which text it is.
+fn print_reading<const SIZE: usize>(
+    rt: &impl Print,
+    sheet: &Built<SIZE>,
+    which: &str,
+    text: &[u8],
+) -> io::Result<()> {
+    let basis = summary(read_matrices(sheet.f, sheet.element, text));
+    println!(rt;
+        "matrices of {} and {}{which}: {}",
+        sheet.f,
+        sheet.element,
+        Shown(basis.map(Graded))
+    )
 }
 
-// The text of the sheet of f and the element, in a buffer of its size, and what reading it back answers.
-fn print_text<H: Host>(host: &H, f: u64, element: u64, sheet: &[u8], text: &mut [u8]) -> bool {
-    if !say_number(host, b"matrices of ", f)
-        || !say_number(host, b" and ", element)
-        || !say(host, b":\n")
-    {
-        return false;
+// The text of a sheet, in a buffer of its size, and what reading it back answers.
+fn print_text<const SIZE: usize>(
+    rt: &impl Print,
+    sheet: &Built<SIZE>,
+    text: &mut [u8],
+) -> io::Result<()> {
+    println!(rt; "matrices of {} and {}:", sheet.f, sheet.element)?;
+    match summary(write_matrices(&sheet.bytes, text)) {
+        Err(refusal) => println!(rt; "{}", Refused(refusal)),
+        Ok(_) => {
+            rt.write_all(text)?;
+            print_reading(rt, sheet, ", read back", text)
+        }
     }
-    match write_matrices(sheet, text) {
-        Issued::Refused(refusal) => say_refusal(host, refusal),
-        Issued::Done(_) => say(host, text)
-            && print_reading(host, f, element, b", read back: ", text),
-    }
-}
-
-fn print_two<H: Host>(host: &H) -> bool {
-    let mut sheet = [0u8; 2 * RECORD];
-    sheet::build(7, 2, &mut sheet);
-    let mut text = [0u8; SIZE_TWO];
-    print_text(host, 7, 2, &sheet, &mut text)
 }
 
 // What reading back answers of the text of degree 3 without its last line.
-fn print_shorter<H: Host>(host: &H, text: &[u8; SIZE_THREE]) -> bool {
-    print_reading(host, 11, 3, b" without the last line: ", &text[..SHORTER])
+fn print_shorter(rt: &impl Print, sheet: &Built<THREE>, text: &[u8; SIZE_THREE]) -> io::Result<()> {
+    print_reading(rt, sheet, " without the last line", &text[..SHORTER])
 }
 
-fn print_three<H: Host>(host: &H) -> bool {
-    let mut sheet = [0u8; 3 * RECORD];
-    sheet::build(11, 3, &mut sheet);
+// On the sheet of degree 4 the table is not symmetric, so that a text with its indices in another order differs.
+fn print_texts(rt: &impl Print) -> io::Result<()> {
+    let mut text = [0u8; SIZE_TWO];
+    print_text(rt, &Built::<TWO>::new(7, 2), &mut text)?;
+    let three = Built::<THREE>::new(11, 3);
     let mut text = [0u8; SIZE_THREE];
-    print_text(host, 11, 3, &sheet, &mut text) && print_shorter(host, &text)
-}
-
-// Here the table is not symmetric, so that a text with its indices in another order differs.
-fn print_four<H: Host>(host: &H) -> bool {
-    let mut sheet = [0u8; 4 * RECORD];
-    sheet::build(19, 8, &mut sheet);
+    print_text(rt, &three, &mut text)?;
+    print_shorter(rt, &three, &text)?;
     let mut text = [0u8; SIZE_FOUR];
-    print_text(host, 19, 8, &sheet, &mut text)
-}
-
-// 1 for the digit 1, else 0.
-fn one_if(byte: u8) -> u64
-    ensures { result ≤ 1 }
-{
-    if byte == ONE { 1 } else { 0 }
+    print_text(rt, &Built::<FOUR>::new(19, 8), &mut text)
 }
 
 // How many digits of a text are 1.
-fn ones_in(text: &[u8]) -> u64 {
-    let mut ones: u64 = 0;
-    let mut k: usize = 0;
-    while k < text.len() {
-        ones += one_if(text[k]);
-        k += 1;
-    }
-    ones
+fn ones_in(text: &[u8]) -> usize {
+    text.iter().filter(|digit| **digit == b'1').count()
 }
 
 // The ones in a text that reading accepts for x in the field of f.
-fn print_ones<H: Host>(host: &H, f: u64, text: &[u8]) -> bool {
-    match read_matrices(f, X, text) {
-        Issued::Refused(refusal) => say_refusal(host, refusal),
-        Issued::Done(summary) => say_complexity(host, summary.degree as u64, ones_in(text)),
-    }
+fn print_ones(rt: &impl Print, f: u64, text: &[u8]) -> io::Result<()> {
+    let basis = summary(read_matrices(f, X, text));
+    let row = basis.map(|basis| TableRow(basis.degree, ones_in(text) as u64));
+    println!(rt; "{}", Shown(row))
 }
 
 // The ones in the text of x in the field of f, of degree n.
-fn print_basis<H: Host>(host: &H, n: usize, f: u64) -> bool
+fn print_basis(rt: &impl Print, n: usize, f: u64) -> io::Result<()>
     requires { n ≤ 7 }
 {
-    let mut sheet = [0u8; LAST * RECORD];
-    sheet::build(f, X, &mut sheet);
+    let sheet = Built::<SEVEN>::new(f, X);
     let length = n * RECORD;
     let mut text = [0u8; ROOM];
-    write_matrices(&sheet[..length], &mut text);
+    write_matrices(&sheet.bytes[..length], &mut text);
     let size = text_size(n);
-    print_ones(host, f, &text[..size])
+    print_ones(rt, f, &text[..size])
 }
 
-fn print_bases<H: Host>(host: &H) -> bool {
-    for n in 2..=LAST {
-        if !print_basis(host, n, POLYNOMIALS[n - 2]) {
-            return false;
-        }
+fn print_bases(rt: &impl Print) -> io::Result<()> {
+    for (i, f) in POLYNOMIALS.iter().enumerate() {
+        print_basis(rt, i + 2, *f)?;
     }
-    true
+    Ok(())
 }
 
-pub(crate) fn run<H: Host>(host: &H) -> bool {
-    print_two(host)
-        && print_three(host)
-        && print_four(host)
-        && say(
-            host,
-            b"ones in the matrices of the best bases, source document 000: degree, ones\n",
-        )
-        && print_bases(host)
+pub(crate) fn run(rt: &impl Print) -> io::Result<()> {
+    print_texts(rt)?;
+    println!(rt; "ones in the matrices of the best bases, source document 000: degree, ones")?;
+    print_bases(rt)
 }
