@@ -18,7 +18,7 @@ const ZERO: u8 = 48;
 pub const TEXT_LIMIT: usize = LIMIT * (LIMIT * (LIMIT + 1) + 1);
 
 // Room for the rows of the longest table, twice over.
-pub const ROWS_TWICE: usize = 2 * LIMIT;
+const ROWS_TWICE: usize = 2 * LIMIT;
 
 // The digit of one bit of a row.
 pub fn digit(row: u64, bit: usize) -> u8
@@ -29,18 +29,25 @@ pub fn digit(row: u64, bit: usize) -> u8
 }
 
 // The n rows of a table, once more the same, and zeros, so that every line finds its rows one after another.
-pub fn rows_twice(table: &[u64; LIMIT], n: usize) -> [u64; ROWS_TWICE]
-    requires { n ≤ limit }
-    ensures { Twice n table.now result }
+#[derive(Clone, Copy)]
+pub struct RowsTwice {
+    pub rows: [u64; ROWS_TWICE],
+    pub n: usize,
+    ghost in_range: { (1 ≤ n) × (n ≤ limit) },
+}
+
+// The rows of a table, twice over.
+pub fn rows_twice(table: &[u64; LIMIT], n: usize) -> RowsTwice
+    requires { (1 ≤ n) × (n ≤ limit) }
+    ensures count { result.n ≡ n }
+    ensures rows { Twice n table.now result.rows }
 {
     let mut rows: [u64; ROWS_TWICE] = [0; ROWS_TWICE];
-    let mut i: usize = 0;
-    while i < n {
+    for i in 0..n {
         rows[i] = table[i];
         rows[n + i] = table[i];
-        i += 1;
     }
-    rows
+    RowsTwice { rows, n }
 }
 
 // The bytes of one matrix and its empty line.

@@ -27,10 +27,7 @@ returns-then-not-built c =
     answer-refused issued.Refused _ (normal-refused f n a c.build_basis-built.ensures (match_rule c.args.text.now (matrices_text f n a) ∷ []) c.if-not-built.true)
 
 pub rows_twice-rows-requires : goal.rows_twice-rows-requires
-rows_twice-rows-requires c = c.requires.1.in_range.most
-
-pub match_verdict-verdict-requires : goal.match_verdict-verdict-requires
-match_verdict-verdict-requires c = (omega (arith, c.requires.1.in_range.two), c.requires.1.in_range.most)
+rows_twice-rows-requires c = (omega (arith, c.requires.1.in_range.two), c.requires.1.in_range.most)
 
 pub summary_of-requires : goal.summary_of-requires
 summary_of-requires c = c.requires.1
@@ -40,7 +37,8 @@ returns-in-Refused c =
     let f = c.args.f in
     let n = c.args.n in
     let a = c.args.element in
-    let verdict = built_verdict f n a c.requires.1 c.requires.2 c.build_basis-built.ensures c.if-not-built.false c.rows_twice-rows.result c.args.text.now c.rows_twice-rows.ensures c.match_verdict-verdict.ensures in
+    let verdict = built_verdict f n a c.requires.1 c.requires.2 c.build_basis-built.ensures c.if-not-built.false c.rows_twice-rows.result.rows c.args.text.now c.rows_twice-rows.ensures.rows
+    (rw c.rows_twice-rows.ensures.count at c.match_verdict-verdict.ensures) in
     judged_refused issued.Refused _ (first_of (match_order f n a c.args.text.now)) verdict c.in-Refused.is
 
 pub returns-in-Done : goal.returns-in-Done
@@ -48,6 +46,7 @@ returns-in-Done c =
     let f = c.args.f in
     let n = c.args.n in
     let a = c.args.element in
-    let verdict = built_verdict f n a c.requires.1 c.requires.2 c.build_basis-built.ensures c.if-not-built.false c.rows_twice-rows.result c.args.text.now c.rows_twice-rows.ensures c.match_verdict-verdict.ensures in
+    let verdict = built_verdict f n a c.requires.1 c.requires.2 c.build_basis-built.ensures c.if-not-built.false c.rows_twice-rows.result.rows c.args.text.now c.rows_twice-rows.ensures.rows
+    (rw c.rows_twice-rows.ensures.count at c.match_verdict-verdict.ensures) in
     ap issued.Done (c.summary_of.ensures ∙ summary_table f n a c.build_basis-built.result.basis (normal-rows f n a c.build_basis-built.ensures c.if-not-built.false))
     ∙ judged_done issued.Refused _ (first_of (match_order f n a c.args.text.now)) verdict c.in-Done.is

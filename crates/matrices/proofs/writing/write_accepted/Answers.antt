@@ -21,15 +21,16 @@ pub load_rows-table-requires : goal.load_rows-table-requires
 load_rows-table-requires c = (done-shaped c.args.sheet.now c.args.summary c.requires, omega arith)
 
 pub rows_twice-rows-requires : goal.rows_twice-rows-requires
-rows_twice-rows-requires c = (done-shaped c.args.sheet.now c.args.summary c.requires).size.most
+rows_twice-rows-requires c =
+    let d = (done-shaped c.args.sheet.now c.args.summary c.requires).size in
+    (omega (arith, d.two), d.most)
 
 pub put_text-requires : goal.put_text-requires
-put_text-requires c =
-    let d = (done-shaped c.args.sheet.now c.args.summary c.requires).size in
-    (omega (arith, d.two), d.most, omega (arith, c.text_size.ensures, c.if-text-text_size.false))
+put_text-requires c = rw c.rows_twice-rows.ensures.count (omega (arith, c.text_size.ensures, c.if-text-text_size.false))
 
 pub returns : goal.returns
 returns c =
     let sheet = c.args.sheet.now in
     let h : text_size (record_count sheet) ≤ length c.args.text.now = omega (arith, c.text_size.ensures, c.if-text-text_size.false) in
-    let whole = write_done sheet c.args.text.now c.args.summary c.requires h c.load_rows-table.result c.rows_twice-rows.result c.put_text.new.text c.load_rows-table.ensures c.rows_twice-rows.ensures c.put_text.ensures in record { answer = whole.0; report = whole.1.0; written = whole.1.1 }
+    let whole = write_done sheet c.args.text.now c.args.summary c.requires h c.load_rows-table.result c.rows_twice-rows.result.rows c.put_text.new.text c.load_rows-table.ensures c.rows_twice-rows.ensures.rows
+    (rw c.rows_twice-rows.ensures.count at c.put_text.ensures) in record { answer = whole.0; report = whole.1.0; written = whole.1.1 }
