@@ -40,10 +40,8 @@ pub fn put_rows(text: &mut [u8], sheet: &[u8], n: usize) -> usize
     ensures short { result ≤ row_room * n }
 {
     let mut at: usize = 0;
-    let mut i: usize = 0;
-    while i < n {
+    for i in 0..n {
         at = put_row(text, at, sheet, i);
-        i += 1;
     }
     at
 }

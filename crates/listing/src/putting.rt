@@ -14,12 +14,9 @@ pub fn put_bytes(text: &mut [u8], at: usize, bytes: &[u8]) -> usize
     requires { at + length bytes.now ≤ length text.old }
     ensures { Put text.old at bytes.now text.new result }
 {
-    let mut k: usize = 0;
-    while k < bytes.len() {
-        text[at + k] = bytes[k];
-        k += 1;
-    }
-    at + k
+    let end = at + bytes.len();
+    text[at..end].copy_from_slice(bytes);
+    end
 }
 
 // A number in decimal and the mark after it, put at a place of the text.
