@@ -46,20 +46,21 @@ pub fn build_basis(spread: &[u16; 256], f: u64, n: u32, a: u64) -> Built
     ensures { result ≡ built_of f n a }
 {
     let conjugates = conjugates_of(spread, f, n, a);
-    let inverted = invert(conjugates, n as usize);
-    if !inverted.independent {
-        let zeros: [u64; LIMIT] = [0; LIMIT];
-        return Built {
-            normal: false,
-            basis: Basis {
-                conjugates: zeros,
-                inverse: zeros,
-                table: zeros,
-            },
-            dependency: inverted.dependency,
-        };
-    }
-    let inverse = inverted.inverse;
+    let inverse = match invert(conjugates, n as usize) {
+        Ok(inverse) => inverse,
+        Err(dependency) => {
+            let zeros: [u64; LIMIT] = [0; LIMIT];
+            return Built {
+                normal: false,
+                basis: Basis {
+                    conjugates: zeros,
+                    inverse: zeros,
+                    table: zeros,
+                },
+                dependency,
+            };
+        }
+    };
     let table = table_of(f, n, conjugates, inverse);
     Built {
         normal: true,

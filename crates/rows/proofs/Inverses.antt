@@ -1,11 +1,10 @@
 -- The laws of `specs/Inverses.antt` that a wrong definition breaks, and what rests on them. The head there tells of both files.
 -- Assumes nothing.
-use Rattle.std.specs.Prelude.{◌≡◌, refl, ◌↔◌, Bool, true, false, List, ℕ, ◌^◌, ◌≤◌, ◌<◌, length, get_or}
+use Rattle.std.specs.Prelude.{◌≡◌, refl, ◌↔◌, true, false, List, ℕ, ◌^◌, ◌≤◌, ◌<◌, length, get_or, Result, Ok, Err, is_ok}
 use Rattle.std.proofs.Common.{sym, ap, ◌∙◌, ⊎_elim, arith, ext_get_or}
 use Rattle.gf2.specs.Numbers.{order}
 use Rattle.gf2.specs.Truth.{not_both}
-use Rattle.rows.specs.declared.inversion.Inverted.{Inverted}
-use Rattle.rows.specs.Rows.{comb, Independent, Inverse, Dependency, InvertsAs, Inverts}
+use Rattle.rows.specs.Rows.{comb, Independent, Inverse, Dependency, Inverts}
 use Rattle.rows.specs.Sums.{comb-zero, comb-power}
 use Rattle.rows.specs.Inverses.{dependency_dependent, undoes}
 
@@ -45,36 +44,17 @@ inverse_no_dependency rows n inv v i d = dependency_dependent rows n v d (invers
 
 -- ---- the answer of inversion
 
-answer : (independent : Bool) (inverse : List ℕ) (dependency : ℕ) → Inverted
-answer independent inverse dependency = record { independent = independent; inverse = inverse; dependency = dependency }
-
--- the parts of two answers agree
-parts_unique : (rows : List ℕ) (n : ℕ) (s t : Bool) (inv other : List ℕ) (v w : ℕ) → InvertsAs rows n s inv v → InvertsAs rows n t other w → answer s inv v ≡ answer t other w
-unfolding answer
-parts_unique rows n true true inv other v w a b =
-    let i : inv ≡ other = inverse_unique rows n inv a.0 other b.0 (a.1 ∙ sym b.1) in
-    let d : v ≡ w = a.2 ∙ sym b.2 in
-    cc
-parts_unique rows n true false inv other v w a b = absurd (inverse_no_dependency rows n inv w a.0 b.0)
-parts_unique rows n false true inv other v w a b = absurd (inverse_no_dependency rows n other v b.0 a.0)
-parts_unique rows n false false inv other v w a b =
-    let i : inv ≡ other = a.1 ∙ sym b.1 in
-    let d : v ≡ w = dependency_unique rows n v w a.0 b.0 in
-    cc
-
 -- any two answers that the promise of inversion permits are equal
-pub inverted_unique : (rows : List ℕ) (n : ℕ) (r s : Inverted) → Inverts rows n r → Inverts rows n s → r ≡ s
-unfolding answer
-inverted_unique rows n r s a b =
-    parts_unique rows n r.independent s.independent r.inverse s.inverse r.dependency s.dependency a b
+pub inverted_unique : (rows : List ℕ) (n : ℕ) (r s : Result (List ℕ) ℕ) → Inverts rows n r → Inverts rows n s → r ≡ s
+inverted_unique rows n (Ok inv) (Ok other) a b = ap Ok (inverse_unique rows n inv a.0 other b.0 (a.1 ∙ sym b.1))
+inverted_unique rows n (Ok inv) (Err w) a b = absurd (inverse_no_dependency rows n inv w a.0 b)
+inverted_unique rows n (Err v) (Ok other) a b = absurd (inverse_no_dependency rows n other v b.0 a)
+inverted_unique rows n (Err v) (Err w) a b = ap Err (dependency_unique rows n v w a b)
 
-parts-independent : (rows : List ℕ) (n : ℕ) (s : Bool) (inv : List ℕ) (v : ℕ) → InvertsAs rows n s inv v → (s ≡ true) ↔ Independent rows n
-parts-independent rows n true inv v a = (λ e. inverse-independent rows n inv a.0, λ free. refl)
-parts-independent rows n false inv v a = (
+-- it gives the inverse rows exactly where the rows are independent
+pub inverted-independent : (rows : List ℕ) (n : ℕ) (r : Result (List ℕ) ℕ) → Inverts rows n r → (is_ok r ≡ true) ↔ Independent rows n
+inverted-independent rows n (Ok inv) a = (λ e. inverse-independent rows n inv a.0, λ free. refl)
+inverted-independent rows n (Err v) a = (
   λ e. absurd (not_both false e refl),
-  λ free. absurd (dependency_dependent rows n v a.0 free),
+  λ free. absurd (dependency_dependent rows n v a free),
 )
-
--- it says that the rows are independent exactly where they are
-pub inverted-independent : (rows : List ℕ) (n : ℕ) (r : Inverted) → Inverts rows n r → (r.independent ≡ true) ↔ Independent rows n
-inverted-independent rows n r = parts-independent rows n r.independent r.inverse r.dependency

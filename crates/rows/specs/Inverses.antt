@@ -5,15 +5,12 @@
 -- Not here: that independent rows have an inverse (`Decision`).
 -- What of this a wrong definition breaks, and what rests on that, stands in `proofs/Inverses.antt`.
 -- Assumes nothing.
-use Rattle.std.specs.Prelude.{◌≡◌, refl, Bool, true, false, List, ℕ, ◌^◌, ◌≤◌, ◌<◌, length, get_or}
+use Rattle.std.specs.Prelude.{◌≡◌, List, ℕ, ◌^◌, ◌≤◌, ◌<◌, length, get_or, Result, Ok, Err}
 use Rattle.std.proofs.Common.{ap, ◌∙◌, ⊎_elim, arith}
-use Rattle.std.proofs.lemmas.List.{length-replicate}
 use Rattle.gf2.specs.Poly.{◌⊕◌}
 use Rattle.gf2.specs.Numbers.{order}
 use Rattle.gf2.specs.Sum.{⊕_self, ⊕-lt, ⊕-eq-zero}
-use Rattle.gf2.specs.Truth.{not_both}
-use Rattle.rows.specs.declared.inversion.Inverted.{Inverted}
-use Rattle.rows.specs.Rows.{comb, Independent, Inverse, Dependency, InvertsAs, Inverts}
+use Rattle.rows.specs.Rows.{comb, Independent, Inverse, Dependency, Inverts}
 use Rattle.rows.specs.Linear.{linear_ext, linear_same, linear_after}
 use Rattle.rows.specs.Sums.{comb-⊕, comb-power}
 
@@ -42,24 +39,15 @@ dependency_dependent rows n v d free = free v d.positive d.below d.vanishes
 
 -- ---- the answer of inversion
 
-parts-inverse : (rows : List ℕ) (n : ℕ) (s : Bool) (inv : List ℕ) (v : ℕ) → InvertsAs rows n s inv v → s ≡ true → Inverse rows n inv
-parts-inverse rows n true inv v a e = a.0
-parts-inverse rows n false inv v a e = absurd (not_both false e refl)
+-- what it says where it gives the inverse rows, and where a dependency
+pub inverted-inverse : (rows : List ℕ) (n : ℕ) (r : Result (List ℕ) ℕ) → Inverts rows n r → (inv : List ℕ) → r ≡ Ok inv → Inverse rows n inv
+inverted-inverse rows n (Ok given) a inv e = let same : given ≡ inv = cc in rw same at a.0
+inverted-inverse rows n (Err v) a inv e = cc
 
-parts-dependency : (rows : List ℕ) (n : ℕ) (s : Bool) (inv : List ℕ) (v : ℕ) → InvertsAs rows n s inv v → s ≡ false → Dependency rows n v
-parts-dependency rows n true inv v a e = absurd (not_both true refl e)
-parts-dependency rows n false inv v a e = a.0
+pub inverted-dependency : (rows : List ℕ) (n : ℕ) (r : Result (List ℕ) ℕ) → Inverts rows n r → (v : ℕ) → r ≡ Err v → Dependency rows n v
+inverted-dependency rows n (Ok inv) a v e = cc
+inverted-dependency rows n (Err given) a v e = let same : given ≡ v = cc in rw same at a
 
--- what it says where it says that the rows are independent, and where not
-pub inverted-inverse : (rows : List ℕ) (n : ℕ) (r : Inverted) → Inverts rows n r → r.independent ≡ true → Inverse rows n r.inverse
-inverted-inverse rows n r = parts-inverse rows n r.independent r.inverse r.dependency
-
-pub inverted-dependency : (rows : List ℕ) (n : ℕ) (r : Inverted) → Inverts rows n r → r.independent ≡ false → Dependency rows n r.dependency
-inverted-dependency rows n r = parts-dependency rows n r.independent r.inverse r.dependency
-
-parts-length : (rows : List ℕ) (n : ℕ) (s : Bool) (inv : List ℕ) (v : ℕ) → InvertsAs rows n s inv v → length inv ≡ length rows
-parts-length rows n true inv v a = a.1
-parts-length rows n false inv v a = ap length a.1 ∙ length-replicate {A = ℕ} (length rows) 0
-
-pub inverted-length : (rows : List ℕ) (n : ℕ) (r : Inverted) → Inverts rows n r → length r.inverse ≡ length rows
-inverted-length rows n r = parts-length rows n r.independent r.inverse r.dependency
+pub inverted-length : (rows : List ℕ) (n : ℕ) (r : Result (List ℕ) ℕ) → Inverts rows n r → (inv : List ℕ) → r ≡ Ok inv → length inv ≡ length rows
+inverted-length rows n (Ok given) a inv e = let same : given ≡ inv = cc in rw same at a.1
+inverted-length rows n (Err v) a inv e = cc

@@ -10,10 +10,9 @@
 --
 -- n is the degree throughout: the number of rows that count, and of bits in a row.
 -- Assumes nothing.
-use Rattle.std.specs.Prelude.{◌≡◌, Bool, true, false, not, ◌&&◌, List, [], ◌∷◌, ℕ, ◌*◌, ◌/◌, ◌%◌, ◌^◌, ◌≤◌, ◌<◌, ltb, eqb, length, get_or, replicate}
+use Rattle.std.specs.Prelude.{◌≡◌, Bool, not, ◌&&◌, List, [], ◌∷◌, ℕ, ◌*◌, ◌/◌, ◌%◌, ◌^◌, ◌≤◌, ◌<◌, ltb, eqb, length, get_or, Result, Ok, Err}
 use Rattle.gf2.specs.Poly.{◌⊕◌}
 use Rattle.gf2.specs.Bounded.{some}
-use Rattle.rows.specs.declared.inversion.Inverted.{Inverted}
 
 -- "sums the conjugate rows picked by the bits", "sums the inverse rows picked by the bits": bit i of v picks row i
 unfoldable pub comb : List ℕ → ℕ → ℕ
@@ -48,10 +47,7 @@ pub record Dependency (rows : List ℕ) (n v : ℕ) : Type 0 where
   pub vanishes : comb rows v ≡ 0
   pub smallest : (w : ℕ) → 0 < w → w < v → comb rows w ≡ 0 → ⊥
 
--- the parts of the answer: the inverse rows and no dependency, or the dependency and no inverse rows
-abbrev pub InvertsAs : (rows : List ℕ) (n : ℕ) (independent : Bool) (inv : List ℕ) (v : ℕ) → Type 0
-InvertsAs rows n true inv v = Inverse rows n inv × (length inv ≡ length rows) × (v ≡ 0)
-InvertsAs rows n false inv v = Dependency rows n v × (inv ≡ replicate (length rows) 0)
-
-abbrev pub Inverts : (rows : List ℕ) (n : ℕ) (r : Inverted) → Type 0
-Inverts rows n r = InvertsAs rows n r.independent r.inverse r.dependency
+-- what inversion answers: the inverse rows, or the dependency
+abbrev pub Inverts : (rows : List ℕ) (n : ℕ) (r : Result (List ℕ) ℕ) → Type 0
+Inverts rows n (Ok inv) = Inverse rows n inv × (length inv ≡ length rows)
+Inverts rows n (Err v) = Dependency rows n v

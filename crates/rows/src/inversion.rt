@@ -9,17 +9,9 @@ use super::bits::{power, width};
 use super::sums::sum;
 use gf2::{LIMIT, picked};
 
-// What inversion answers. Where the rows are independent, the inverse rows, and 0; else zeros, and the smallest number other than 0
-// whose bits pick rows that sum to zero.
-#[derive(Clone, Copy)]
-pub struct Inverted {
-    pub independent: bool,
-    pub inverse: [u64; LIMIT],
-    pub dependency: u64,
-}
-
 // Row is added to each of the first count reduced rows that has the column's bit, so that none of them has it, and is put at the
-// column's place; the names follow.
+// column's place; the names follow. Rows and names are two arrays, and not one of pairs, since `sum` adds entries of either, and the names
+// alone are the inverse.
 fn place(
     reduced: &mut [u64; LIMIT],
     names: &mut [u64; LIMIT],
@@ -42,9 +34,10 @@ fn place(
     names[column] = name;
 }
 
-// The inverse of a matrix of degree n, or its dependency. A name says of which of the given rows a reduced row is the sum; at the
-// end each reduced row is a single bit, and the names are the inverse.
-pub fn invert(rows: [u64; LIMIT], n: usize) -> Inverted
+// The inverse rows of a matrix of degree n, or, where its rows are dependent, the smallest number other than 0 whose bits pick rows that
+// sum to zero. A name says of which of the given rows a reduced row is the sum; at the end each reduced row is a single bit, and the names
+// are the inverse.
+pub fn invert(rows: [u64; LIMIT], n: usize) -> Result<[u64; LIMIT], u64>
     requires { (n ≤ limit) × Matrix rows n }
     ensures { Inverts rows n result }
 {
@@ -57,19 +50,11 @@ pub fn invert(rows: [u64; LIMIT], n: usize) -> Inverted
         let rest = row ^ sum(&reduced, met);
         let name = power(k) ^ sum(&names, met);
         if rest == 0 {
-            return Inverted {
-                independent: false,
-                inverse: [0; LIMIT],
-                dependency: name,
-            };
+            return Err(name);
         }
         let column = u64::trailing_zeros(rest) as usize;
         place(&mut reduced, &mut names, width(pivots), column, rest, name);
         pivots = pivots ^ power(column);
     }
-    Inverted {
-        independent: true,
-        inverse: names,
-        dependency: 0,
-    }
+    Ok(names)
 }

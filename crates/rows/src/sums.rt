@@ -5,7 +5,8 @@ ghost use Rattle.rows.specs.Rows.{comb};
 
 use gf2::{LIMIT, picked};
 
-// The sum of the rows that v's bits pick. It stops after v's highest bit, so small degrees take few turns; no turn has a branch.
+// The sum of the rows that v's bits pick. It stops after v's highest bit, so small degrees take few turns; no turn has a branch. Over the
+// rows up to that bit, as a slice, a `for` takes a fifth longer.
 pub fn sum(rows: &[u64; LIMIT], v: u64) -> u64
     requires { v < 2 ^ limit }
     ensures { result ≡ comb rows.now v }

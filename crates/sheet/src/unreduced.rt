@@ -10,7 +10,7 @@ ghost use Rattle.sheet.specs.Unreduced.{word_rows, in_normal};
 
 use super::in_place::convert_each;
 use gf2::{LIMIT, element_of, multiply_by_x};
-use rows::{WORD_ROWS, WORD_SUMS, sum, sum_of_word, word_sums};
+use rows::{WORD_ROWS, WORD_SUMS, byte_sums, sum, sum_by_bytes};
 
 // Every word of a list replaced by its remainder modulo f, of degree n.
 pub fn reduce_all(f: u64, n: u32, list: &mut [u64])
@@ -52,6 +52,6 @@ pub fn convert_words(rows: &[u64; LIMIT], f: u64, n: u32, list: &mut [u64])
     ensures { list.new ≡ map (in_normal f n rows.now) list.old }
 {
     let mut sums: [u64; WORD_SUMS] = [0; WORD_SUMS];
-    word_sums(word_rows(rows, f, n), &mut sums);
-    convert_each(list, |word| sum_of_word(&sums, word));
+    byte_sums(word_rows(rows, f, n), &mut sums);
+    convert_each(list, |word| sum_by_bytes(&sums, word));
 }

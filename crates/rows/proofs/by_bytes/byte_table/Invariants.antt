@@ -1,13 +1,8 @@
--- `rows::by_bytes::byte_table` meets its contract. The loop's invariant: the table holds the sums of the first t rows (`tabled`). The measure is
--- the number of rows to come. Assumes nothing.
-use mathlib.Core.Path.{◌≡◌}
-use Prim.Native.Nat.{◌-◌, ◌*◌, ◌≤◌}
-use lib.ListN.{drop}
+-- `rows::by_bytes::byte_table` meets its contract. The loop's invariant: the table holds the sums of the first t rows (`tabled`).
+-- Assumes nothing.
+use Rattle.std.proofs.Common.{◌≡◌, ◌*◌, drop}
 use Rattle.rows.specs.Doubling.{tabled}
 use Rattle.rows.proofs.by_bytes.byte_table.Given as goal
 
 abbrev pub invariant-loop-t : goal.invariant-loop-t
-invariant-loop-t l = (l.t ≤ 8) × (l.sums ≡ tabled l.t (256 * l.j) (drop (8 * l.j) l.rows) l.initial.sums)
-
-abbrev pub decreases-loop-t : goal.decreases-loop-t
-decreases-loop-t l = 8 - l.t
+invariant-loop-t l = l.sums ≡ tabled l.t (256 * l.j) (drop (8 * l.j) l.rows) l.initial.sums

@@ -12,11 +12,11 @@ use Rattle.rows.proofs.by_bytes.double.Goals as goal
 kept : (l : At-loop-b) → length l.loop-b.sums ≡ length l.args.sums.now
 kept l =
     let s = l.args in
-    ap length l.loop-b.invariant.1 ∙ doubled-length s.at s.count s.row s.sums.now l.loop-b.b
+    ap length l.loop-b.invariant ∙ doubled-length s.at s.count s.row s.sums.now l.loop-b.b
 
 pub loop-b-init : goal.loop-b-init
 unfolding doubled
-loop-b-init c = (omega arith, refl)
+loop-b-init c = refl
 
 pub overflow_add-sums : goal.overflow_add-sums
 overflow_add-sums c = omega (arith, c.requires, kept (goal.at.overflow_add-sums c).At-loop-b)
@@ -43,7 +43,7 @@ pub loop-b-preserved : goal.loop-b-preserved
 unfolding ◌⊕◌
 loop-b-preserved c =
     let s = c.args in
-    (omega arith, doubled_turn s.at s.count s.row s.sums.now c.loop-b.b c.loop-b.sums c.loop-b.invariant.1)
+    doubled_turn s.at s.count s.row s.sums.now c.loop-b.b c.loop-b.sums c.loop-b.invariant
 
 pub shape_of-sums : goal.shape_of-sums
 shape_of-sums c = kept (goal.at.shape_of-sums c).At-loop-b
@@ -51,4 +51,4 @@ shape_of-sums c = kept (goal.at.shape_of-sums c).At-loop-b
 pub returns : goal.returns
 returns c =
     let s = c.args in
-    c.loop-b.invariant.1 ∙ ap (λ (m : ℕ). doubled m s.at s.count s.row s.sums.now) (omega arith)
+    c.loop-b.invariant ∙ ap (λ (m : ℕ). doubled m s.at s.count s.row s.sums.now) (omega arith)

@@ -19,12 +19,12 @@ use Rattle.rows.proofs.inversion.invert.Goals.{After-sum-in-loop-k, After-width,
 use Rattle.rows.proofs.inversion.invert.Goals as goal
 
 pub loop-k-init : goal.loop-k-init
-loop-k-init c = (omega arith, insertion_start c.args.rows c.args.n limit, refl, refl)
+loop-k-init c = (insertion_start c.args.rows c.args.n limit, refl, refl)
 
 -- ---- the row is reduced
 
 pivots-lt : (l : At-loop-k) → l.loop-k.pivots < 2 ^ limit
-pivots-lt l = lt_of_lt_of_le l.loop-k.invariant.1.columns (pow_mono {j = limit} (omega arith))
+pivots-lt l = lt_of_lt_of_le l.loop-k.invariant.0.columns (pow_mono {j = limit} (omega arith))
 
 -- the bits that the row and the pivots share pick among the rows
 met-lt : (l : At-loop-k) → get_or l.args.rows l.loop-k.k 0 ∩ l.loop-k.pivots < 2 ^ limit
@@ -53,7 +53,7 @@ reduced-row : (d : After-sum-in-loop-k) → let l = head d in
 unfolding ◌∩◌
 reduced-row d =
     let l = head d in
-    row_reduced l.loop-k.invariant.1 l.requires.1.row_lt
+    row_reduced l.loop-k.invariant.0 l.requires.1.row_lt
     d.sum.result d.sum-in-loop-k.result d.power.result
     d.sum.ensures d.sum-in-loop-k.ensures d.power.ensures
 
@@ -63,8 +63,7 @@ pub returns-then-rest-eq0 : goal.returns-then-rest-eq0
 unfolding ◌⊕◌
 returns-then-rest-eq0 c =
     let l = head (goal.at.returns-then-rest-eq0 c).After-sum-in-loop-k in
-    let size : length l.args.rows ≡ limit = search rules in
-    (row_dependent l.loop-k.invariant.1 l.requires.1.row_lt (reduced-row (goal.at.returns-then-rest-eq0 c).After-sum-in-loop-k) (omega arith) c.if-rest-eq0.true, rw size)
+    row_dependent l.loop-k.invariant.0 l.requires.1.row_lt (reduced-row (goal.at.returns-then-rest-eq0 c).After-sum-in-loop-k) (omega arith) c.if-rest-eq0.true
 
 -- ---- what is left goes in
 
@@ -98,12 +97,11 @@ loop-k-preserved c =
     let m = c.width.result in
     let column = count_trailing_zeros 64 (rest (goal.at.loop-k-preserved c).After-sum-in-loop-k) in
     let p = c.place.ensures in (
-      omega arith,
       rw (p.rows, p.follow, c.power-pivots.ensures)
-          (insertion_turn i.1 l.requires.1.row_lt r column m limit
-          (pivot_set 64 r c.if-rest-eq0.false (omega arith)) c.width.ensures.0 i.2 i.3 (omega arith) (count-le (goal.at.loop-k-preserved c).After-width)),
-      rw p.rows (length-placed column (rest (goal.at.loop-k-preserved c).After-sum-in-loop-k) l.loop-k.reduced l.loop-k.reduced m ∙ i.2),
-      rw p.follow (length-placed column (name (goal.at.loop-k-preserved c).After-sum-in-loop-k) l.loop-k.reduced l.loop-k.names m ∙ i.3),
+          (insertion_turn i.0 l.requires.1.row_lt r column m limit
+          (pivot_set 64 r c.if-rest-eq0.false (omega arith)) c.width.ensures.0 i.1 i.2 (omega arith) (count-le (goal.at.loop-k-preserved c).After-width)),
+      rw p.rows (length-placed column (rest (goal.at.loop-k-preserved c).After-sum-in-loop-k) l.loop-k.reduced l.loop-k.reduced m ∙ i.1),
+      rw p.follow (length-placed column (name (goal.at.loop-k-preserved c).After-sum-in-loop-k) l.loop-k.reduced l.loop-k.names m ∙ i.2),
     )
 
 -- ---- all rows are in
@@ -111,4 +109,4 @@ loop-k-preserved c =
 pub returns : goal.returns
 returns c =
     let size : length c.args.rows ≡ limit = search rules in
-    (insertion_end c.loop-k.invariant.1 c.requires.1.row_lt (omega arith), c.loop-k.invariant.3 ∙ sym size, refl)
+    (insertion_end c.loop-k.invariant.0 c.requires.1.row_lt (omega arith), c.loop-k.invariant.2 ∙ sym size)

@@ -11,7 +11,7 @@ use Rattle.rows.proofs.inversion.place.Goals as goal
 
 pub loop-i-init : goal.loop-i-init
 unfolding added
-loop-i-init c = (omega arith, refl, refl)
+loop-i-init c = (refl, refl)
 
 pub loop-i-preserved : goal.loop-i-preserved
 unfolding ◌⊕◌ bit_of
@@ -20,18 +20,18 @@ loop-i-preserved c =
     let i = c.loop-i.i in
     let heads = s.reduced.now in
     let head = get_or c.loop-i.reduced i 0 in
-    let same : head ≡ get_or heads i 0 = ap (λ (r : List ℕ). get_or r i 0) c.loop-i.invariant.1 ∙ added-past s.column s.row heads heads i i (omega arith) in
+    let same : head ≡ get_or heads i 0 = ap (λ (r : List ℕ). get_or r i 0) c.loop-i.invariant.0 ∙ added-past s.column s.row heads heads i i (omega arith) in
     let part = c.picked in
     let row-turn : set c.loop-i.reduced i (head ⊕ part.result) ≡ added (i + 1) s.column s.row heads heads =
-    added_turn s.column s.row heads heads i c.loop-i.reduced head part.result c.loop-i.invariant.1 same part.ensures in
+    added_turn s.column s.row heads heads i c.loop-i.reduced head part.result c.loop-i.invariant.0 same part.ensures in
     let name-turn : set c.loop-i.names i (get_or c.loop-i.names i 0 ⊕ c.picked-in-loop-i.result) ≡ added (i + 1) s.column s.name heads s.names.now =
-    added_turn s.column s.name heads s.names.now i c.loop-i.names head c.picked-in-loop-i.result c.loop-i.invariant.2 same c.picked-in-loop-i.ensures in
-    (omega arith, row-turn, name-turn)
+    added_turn s.column s.name heads s.names.now i c.loop-i.names head c.picked-in-loop-i.result c.loop-i.invariant.1 same c.picked-in-loop-i.ensures in
+    (row-turn, name-turn)
 
 pub returns : goal.returns
 returns c =
     let s = c.args in
     let e : s.count ≡ c.loop-i.i = omega arith in record {
-      rows = rw e (ap (λ (r : List ℕ). set r s.column s.row) c.loop-i.invariant.1);
-      follow = rw e (ap (λ (r : List ℕ). set r s.column s.name) c.loop-i.invariant.2);
+      rows = rw e (ap (λ (r : List ℕ). set r s.column s.row) c.loop-i.invariant.0);
+      follow = rw e (ap (λ (r : List ℕ). set r s.column s.name) c.loop-i.invariant.1);
     }

@@ -20,5 +20,5 @@ word_rows-requires c = c.requires
 pub returns : goal.returns
 returns c =
     let words = c.args.list.now in
-    map-each (picked_bytes word_bytes c.word_sums.new.sums) words c.convert_each.new.list c.convert_each.ensures.size (λ i l. let h = c.convert_each.ensures.converted i l in search rules)
-    ∙ by_rows c.args.f c.args.n c.requires.is_degree c.args.rows.now words c.word_rows.ensures c.word_sums.ensures (λ i h. omega (arith, c.slice_known-1.given i))
+    map-each (picked_bytes word_bytes c.byte_sums.new.sums) words c.convert_each.new.list c.convert_each.ensures.size (λ i l. let h = c.convert_each.ensures.converted i l in search rules)
+    ∙ by_rows c.args.f c.args.n c.requires.is_degree c.args.rows.now words c.word_rows.ensures c.byte_sums.ensures (λ i h. omega (arith, c.slice_known-1.given i))
