@@ -9,15 +9,13 @@
 --
 -- That a refusal's other values are zero stands in the reports (`report_of`, `issue_of`, `refused_report`, `cause_report`).
 -- Assumes nothing.
-use Rattle.std.specs.Prelude.{ℕ}
+use Rattle.std.specs.Prelude.{ℕ, Option, None, Some}
 use Rattle.refusals.specs.Answers.{Report}
 use Rattle.sheet.specs.Answers.{Issue}
 use Rattle.causes.specs.Causes.{Reason}
 use Rattle.search.specs.Answers.{SearchReport}
 use Rattle.search.specs.declared.answer.Search.{Search}
 use Rattle.search.specs.declared.answer.Search.TheVariants.{Refused, Nothing, Found}
-use Rattle.words.specs.declared.answer.Word.{Word}
-use Rattle.words.specs.declared.answer.Word.TheVariants.{Unclear, Number}
 use Rattle.capi.specs.declared.answer.DeskValue.{DeskValue}
 use Rattle.capi.specs.declared.answer.DeskIssued.{DeskIssued}
 use Rattle.capi.specs.declared.answer.DeskFound.{DeskFound}
@@ -43,6 +41,6 @@ abbrev pub desk_cause : Reason → DeskCause
 desk_cause p = record { number = p.number; place = p.place; cause = p.cause; field = p.field; stored = p.stored; right = p.right }
 
 -- an unclear word has the value 0, which a clear word may have as well: the flag tells them apart
-unfoldable pub desk_word : Word → DeskWord
-desk_word Unclear = record { clear = 0; value = 0 }
-desk_word (Number x) = record { clear = 1; value = x }
+unfoldable pub desk_word : Option ℕ → DeskWord
+desk_word None = record { clear = 0; value = 0 }
+desk_word (Some x) = record { clear = 1; value = x }

@@ -12,7 +12,6 @@ use normal::grade_number;
 use refusals::{Checked, Value};
 use search::Search;
 use sheet::Issued;
-use words::Word;
 
 // The answer of a call that has one value, or none: then the value is 0.
 #[repr(C)]
@@ -199,11 +198,11 @@ pub fn cause_out(answer: Cause) -> DeskCause
 }
 
 // What a word means, handed out.
-pub fn word_out(answer: Word) -> DeskWord
+pub fn word_out(answer: Option<u64>) -> DeskWord
     ensures { result ≡ desk_word answer }
 {
     match answer {
-        Word::Unclear => DeskWord { clear: 0, value: 0 },
-        Word::Number(value) => DeskWord { clear: 1, value },
+        None => DeskWord { clear: 0, value: 0 },
+        Some(value) => DeskWord { clear: 1, value },
     }
 }

@@ -6,21 +6,19 @@
 --
 -- Assumes nothing.
 use Rattle.std.proofs.Math.Path.{◌≡◌, refl}
-use Rattle.std.specs.Prelude.{◌⊎◌, Bool, cond, ◌&&◌, List, [], ◌∷◌, ℕ, suc, ◌+◌, ◌-◌, ◌*◌, ◌/◌, ◌^◌, ◌≤◌, ◌<◌, length, get_or, drop}
+use Rattle.std.specs.Prelude.{◌⊎◌, Bool, cond, ◌&&◌, List, [], ◌∷◌, ℕ, suc, ◌+◌, ◌-◌, ◌*◌, ◌/◌, ◌^◌, ◌≤◌, ◌<◌, length, get_or, drop, Option, None, Some}
 use Rattle.std.proofs.Math.Logic.{⊎_elim}
 use Rattle.std.proofs.Math.Bool.{true, false, and-false}
 use Rattle.std.proofs.Common.{div-lt_iff_lt-mul, le-div_iff_mul-le, mul-le-mul_left, add-one, arith, drop_of_length-le, drop-cons}
 use Rattle.std.proofs.Math.Dec.{ltb}
 use borrow.Author.Tests.{lt-ltb, le-ltb, ltb-true, ltb-false, le-leb, lt-leb}
 use Rattle.words.specs.Notation.{among, worth, digits_only, value_after, spells, number_in}
-use Rattle.words.specs.declared.answer.Word.{Word}
-use Rattle.words.specs.declared.answer.Word.TheVariants.{Unclear, Number}
 
-unfoldable pub within : (base bound before : ℕ) → List ℕ → Word
-within base bound before word = cond (digits_only base word && ltb (value_after base before word) bound) (Number (value_after base before word)) Unclear
+unfoldable pub within : (base bound before : ℕ) → List ℕ → Option ℕ
+within base bound before word = cond (digits_only base word && ltb (value_after base before word) bound) (Some (value_after base before word)) None
 
-unfoldable pub more_by : (base before byte : ℕ) → Word
-more_by base before byte = cond (ltb (worth byte) base && ltb (before * base + worth byte) (2 ^ 64)) (Number (before * base + worth byte)) Unclear
+unfoldable pub more_by : (base before byte : ℕ) → Option ℕ
+more_by base before byte = cond (ltb (worth byte) base && ltb (before * base + worth byte) (2 ^ 64)) (Some (before * base + worth byte)) None
 
 -- ---- what a byte is worth
 
@@ -69,12 +67,12 @@ value_grows base before (byte ∷ bytes) h =
 -- ---- one more digit, as it is tested without a sum that wraps
 
 module _ (base before digit byte : ℕ) (e : digit ≡ worth byte) where
-  pub more_no_digit : base ≤ digit → Unclear ≡ more_by base before byte
+  pub more_no_digit : base ≤ digit → None ≡ more_by base before byte
   unfolding more_by
   more_no_digit h = rw (le-ltb (worth byte) base (omega (arith, e)))
 
   module _ (large : 2 ≤ base) (small : base ≤ 16) (d : digit < base) where
-    pub more_too_large : (2 ^ 64 - 1 - digit) / base < before → Unclear ≡ more_by base before byte
+    pub more_too_large : (2 ^ 64 - 1 - digit) / base < before → None ≡ more_by base before byte
     unfolding more_by
     more_too_large h =
         let m : 2 ^ 64 - 1 - digit < before * base = (div-lt_iff_lt-mul {k = base} {x = 2 ^ 64 - 1 - digit} {y = before} (omega arith)).0 h in
@@ -85,7 +83,7 @@ module _ (base before digit byte : ℕ) (e : digit ≡ worth byte) where
         let m : before * base ≤ 2 ^ 64 - 1 - digit = (le-div_iff_mul-le {k = base} {x = before} {y = 2 ^ 64 - 1 - digit} (omega arith)).0 h in
         omega arith
 
-    pub more-number : before * base + digit < 2 ^ 64 → Number (before * base + digit) ≡ more_by base before byte
+    pub more-number : before * base + digit < 2 ^ 64 → Some (before * base + digit) ≡ more_by base before byte
     unfolding more_by
     more-number h =
         rw (e, lt-ltb (worth byte) base (omega (arith, e)), lt-ltb (before * base + worth byte) (2 ^ 64) (omega (arith, e)))
@@ -93,7 +91,7 @@ module _ (base before digit byte : ℕ) (e : digit ≡ worth byte) where
 -- ---- the digits left
 
 module _ (base before byte : ℕ) (bytes : List ℕ) where
-  left-more : (next : ℕ) → more_by base before byte ≡ Number next
+  left-more : (next : ℕ) → more_by base before byte ≡ Some next
       → (next < 2 ^ 64) × (within base (2 ^ 64) next bytes ≡ within base (2 ^ 64) before (byte ∷ bytes))
   unfolding more_by within digits_only value_after
   left-more next m = go (ltb (worth byte) base) (ltb (before * base + worth byte) (2 ^ 64)) refl refl
@@ -101,26 +99,26 @@ module _ (base before byte : ℕ) (bytes : List ℕ) where
       go : (a b : Bool) → ltb (worth byte) base ≡ a → ltb (before * base + worth byte) (2 ^ 64) ≡ b
           → (next < 2 ^ 64) × (within base (2 ^ 64) next bytes ≡ within base (2 ^ 64) before (byte ∷ bytes))
       go true true ea eb =
-          let n : Number (before * base + worth byte) ≡ Number next = rw (ea, eb) at m in
+          let n : Some (before * base + worth byte) ≡ Some next = rw (ea, eb) at m in
           let q : next ≡ before * base + worth byte = cc in
           (rw q (ltb-true (before * base + worth byte) (2 ^ 64) eb), rw (q, ea))
       go true false ea eb =
-          let n : Unclear ≡ Number next = rw (ea, eb) at m in
+          let n : None ≡ Some next = rw (ea, eb) at m in
           let z : ◌≡◌ {A = ℕ} 0 1 = cc in
           absurd (omega arith)
       go false b ea eb =
-          let n : Unclear ≡ Number next = rw ea at m in
+          let n : None ≡ Some next = rw ea at m in
           let z : ◌≡◌ {A = ℕ} 0 1 = cc in
           absurd (omega arith)
 
-  left_stop : 1 ≤ base → more_by base before byte ≡ Unclear → within base (2 ^ 64) before (byte ∷ bytes) ≡ Unclear
+  left_stop : 1 ≤ base → more_by base before byte ≡ None → within base (2 ^ 64) before (byte ∷ bytes) ≡ None
   unfolding more_by within digits_only value_after
   left_stop h m = go (ltb (worth byte) base) (ltb (before * base + worth byte) (2 ^ 64)) refl refl
     where
       go : (a b : Bool) → ltb (worth byte) base ≡ a → ltb (before * base + worth byte) (2 ^ 64) ≡ b
-          → within base (2 ^ 64) before (byte ∷ bytes) ≡ Unclear
+          → within base (2 ^ 64) before (byte ∷ bytes) ≡ None
       go true true ea eb =
-          let n : Number (before * base + worth byte) ≡ Unclear = rw (ea, eb) at m in
+          let n : Some (before * base + worth byte) ≡ None = rw (ea, eb) at m in
           let z : ◌≡◌ {A = ℕ} 0 1 = cc in
           absurd (omega arith)
       go true false ea eb =
@@ -132,21 +130,21 @@ module _ (base before byte : ℕ) (bytes : List ℕ) where
 -- ---- the turns of the loop
 
 module _ (base before : ℕ) (word : List ℕ) (i : ℕ) where
-  pub digits_more : (next : ℕ) → i < length word → more_by base before (get_or word i 0) ≡ Number next
+  pub digits_more : (next : ℕ) → i < length word → more_by base before (get_or word i 0) ≡ Some next
       → (next < 2 ^ 64) × (within base (2 ^ 64) next (drop (i + 1) word) ≡ within base (2 ^ 64) before (drop i word))
   digits_more next h m = rw (drop-cons word i 0 h, add-one) (left-more base before (get_or word i 0) (drop (suc i) word) next m)
 
-  pub digits_stop : 1 ≤ base → i < length word → more_by base before (get_or word i 0) ≡ Unclear → within base (2 ^ 64) before (drop i word) ≡ Unclear
+  pub digits_stop : 1 ≤ base → i < length word → more_by base before (get_or word i 0) ≡ None → within base (2 ^ 64) before (drop i word) ≡ None
   digits_stop l h m = rw (drop-cons word i 0 h) (left_stop base before (get_or word i 0) (drop (suc i) word) l m)
 
-  pub digits-read : length word ≤ i → before < 2 ^ 64 → within base (2 ^ 64) before (drop i word) ≡ Number before
+  pub digits-read : length word ≤ i → before < 2 ^ 64 → within base (2 ^ 64) before (drop i word) ≡ Some before
   unfolding within digits_only value_after
   digits-read h l = rw (drop_of_length-le word {i = i} h, lt-ltb before (2 ^ 64) l)
 
 -- ---- a whole word
 
 module _ (base bound : ℕ) (word : List ℕ) where
-  pub word_empty : length word ≡ 0 → Unclear ≡ number_in base bound word
+  pub word_empty : length word ≡ 0 → None ≡ number_in base bound word
   unfolding number_in spells
   word_empty e = rw e
 

@@ -73,13 +73,13 @@ parts_plain (byte ∷ bytes) = go (eqb byte colon) refl (parts_plain bytes)
 
 -- ---- and there is no other such cut
 
-plain_first : (part : List ℕ) → Plain part → (rest : List ℕ) → parts (part ++ (colon ∷ rest)) ≡ part ∷ parts rest
+pub plain_first : (part : List ℕ) → Plain part → (rest : List ℕ) → parts (part ++ (colon ∷ rest)) ≡ part ∷ parts rest
 unfolding parts ahead
 plain_first [] g rest = refl
 plain_first (byte ∷ bytes) g rest =
     rw (ne_eqb byte colon (g 0 (omega arith)), plain_first bytes (λ i h. g (suc i) (suc-le-suc h)) rest)
 
-plain_only : (part : List ℕ) → Plain part → parts part ≡ part ∷ []
+pub plain_only : (part : List ℕ) → Plain part → parts part ≡ part ∷ []
 unfolding parts ahead
 plain_only [] g = refl
 plain_only (byte ∷ bytes) g = rw (ne_eqb byte colon (g 0 (omega arith)), plain_only bytes (λ i h. g (suc i) (suc-le-suc h)))

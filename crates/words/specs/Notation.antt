@@ -25,9 +25,7 @@
 --   polynomial_of word        what a word means as a polynomial
 --
 -- Assumes nothing.
-use Rattle.std.specs.Prelude.{Bool, true, cond, ◌&&◌, List, [], ◌∷◌, map, ℕ, ◌+◌, ◌-◌, ◌*◌, ◌^◌, leb, ltb, eqb, length, get_or, drop}
-use Rattle.words.specs.declared.answer.Word.{Word}
-use Rattle.words.specs.declared.answer.Word.TheVariants.{Unclear, Number}
+use Rattle.std.specs.Prelude.{Bool, true, cond, ◌&&◌, List, [], ◌∷◌, map, ℕ, ◌+◌, ◌-◌, ◌*◌, ◌^◌, leb, ltb, eqb, length, get_or, drop, Option, None, Some}
 
 -- ---- digits
 
@@ -55,8 +53,8 @@ value base word = value_after base 0 word
 unfoldable pub spells : (base bound : ℕ) → List ℕ → Bool
 spells base bound word = ltb 0 (length word) && (digits_only base word && ltb (value base word) bound)
 
-unfoldable pub number_in : (base bound : ℕ) → List ℕ → Word
-number_in base bound word = cond (spells base bound word) (Number (value base word)) Unclear
+unfoldable pub number_in : (base bound : ℕ) → List ℕ → Option ℕ
+number_in base bound word = cond (spells base bound word) (Some (value base word)) None
 
 -- ---- numbers
 
@@ -65,7 +63,7 @@ unfoldable pub marked : List ℕ → Bool
 marked word = eqb (get_or word 0 0) 48 && eqb (get_or word 1 0) 120
 
 -- "`0x` and then one or more digits"; a word without that mark is decimal
-unfoldable pub number_of : List ℕ → Word
+unfoldable pub number_of : List ℕ → Option ℕ
 number_of word = cond (marked word) (number_in 16 (2 ^ 64) (drop 2 word)) (number_in 10 (2 ^ 64) word)
 
 -- ---- exponents
@@ -104,11 +102,11 @@ powers [] = 0
 powers (e ∷ es) = 2 ^ e + powers es
 
 -- the exponents, where every part is one and they fall
-unfoldable pub exponents_of : List (List ℕ) → Word
+unfoldable pub exponents_of : List (List ℕ) → Option ℕ
 exponents_of split =
     let es : List ℕ = map (value 10) split in
-    cond (every_exponent split && falling es) (Number (powers es)) Unclear
+    cond (every_exponent split && falling es) (Some (powers es)) None
 
 -- "two or more" parts are exponents; "a lone number without `:` is decimal, not an exponent"
-unfoldable pub polynomial_of : List ℕ → Word
+unfoldable pub polynomial_of : List ℕ → Option ℕ
 polynomial_of word = cond (ltb 1 (length (parts word))) (exponents_of (parts word)) (number_of word)

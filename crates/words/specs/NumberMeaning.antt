@@ -3,11 +3,10 @@
 --   Numeral base bound word v   the word is one or more digits of the base, and their value is v, below the bound
 --
 -- Assumes nothing.
-use Rattle.std.specs.Prelude.{◌≡◌, refl, ◌⊎◌, ◌↔◌, Bool, true, false, List, [], ◌∷◌, ℕ, zero, suc, ◌^◌, ◌<◌, ltb, eqb, length, get_or, take, drop}
+use Rattle.std.specs.Prelude.{◌≡◌, refl, ◌⊎◌, ◌↔◌, Bool, true, false, List, [], ◌∷◌, ℕ, zero, suc, ◌^◌, ◌<◌, ltb, eqb, length, get_or, take, drop, Some}
 use Rattle.std.proofs.Common.{sym, inl, inr, suc-le-suc, le_of_suc-le-suc, not-suc-le-zero, arith, lt-ltb, ltb-true, eqb-true}
 use Rattle.words.specs.Notation.{worth, digits_only, value, number_in, marked, number_of}
 use Rattle.words.specs.Spelling.{both_true, number_spelled, spelled_number, marked-long}
-use Rattle.words.specs.declared.answer.Word.TheVariants.{Number}
 
 pub record Numeral (base bound : ℕ) (word : List ℕ) (v : ℕ) : Type 0 where
   pub some : 0 < length word
@@ -30,7 +29,7 @@ each-digits base [] g = refl
 each-digits base (byte ∷ bytes) g =
     rw (lt-ltb (worth byte) base (g 0 (omega arith))) (each-digits base bytes λ i h. g (suc i) (suc-le-suc h))
 
-pub numeral_means : (base bound : ℕ) (word : List ℕ) (v : ℕ) → (number_in base bound word ≡ Number v) ↔ Numeral base bound word v
+pub numeral_means : (base bound : ℕ) (word : List ℕ) (v : ℕ) → (number_in base bound word ≡ Some v) ↔ Numeral base bound word v
 numeral_means base bound word v = (
   λ n.
       let s = number_spelled base bound word v n in
@@ -68,23 +67,23 @@ decimal-unmarked word v m e =
     omega arith
 
 pub number-means : (word : List ℕ) (v : ℕ)
-    → (number_of word ≡ Number v) ↔ (Numeral 10 (2 ^ 64) word v ⊎ ((take 2 word ≡ 48 ∷ 120 ∷ []) × Numeral 16 (2 ^ 64) (drop 2 word) v))
+    → (number_of word ≡ Some v) ↔ (Numeral 10 (2 ^ 64) word v ⊎ ((take 2 word ≡ 48 ∷ 120 ∷ []) × Numeral 16 (2 ^ 64) (drop 2 word) v))
 unfolding number_of
 number-means word v = (go (marked word) refl, back)
   where
-    go : (b : Bool) → marked word ≡ b → number_of word ≡ Number v
+    go : (b : Bool) → marked word ≡ b → number_of word ≡ Some v
         → Numeral 10 (2 ^ 64) word v ⊎ ((take 2 word ≡ 48 ∷ 120 ∷ []) × Numeral 16 (2 ^ 64) (drop 2 word) v)
     go true e n =
-        let m : number_in 16 (2 ^ 64) (drop 2 word) ≡ Number v = rw e at n in
+        let m : number_in 16 (2 ^ 64) (drop 2 word) ≡ Some v = rw e at n in
         inr ((marked-means word).0 e, (numeral_means 16 (2 ^ 64) (drop 2 word) v).0 m)
     go false e n =
-        let m : number_in 10 (2 ^ 64) word ≡ Number v = rw e at n in
+        let m : number_in 10 (2 ^ 64) word ≡ Some v = rw e at n in
         inl ((numeral_means 10 (2 ^ 64) word v).0 m)
 
     unmarked : (b : Bool) → marked word ≡ b → Numeral 10 (2 ^ 64) word v → marked word ≡ false
     unmarked true e m = absurd (decimal-unmarked word v m e)
     unmarked false e m = e
 
-    back : Numeral 10 (2 ^ 64) word v ⊎ ((take 2 word ≡ 48 ∷ 120 ∷ []) × Numeral 16 (2 ^ 64) (drop 2 word) v) → number_of word ≡ Number v
+    back : Numeral 10 (2 ^ 64) word v ⊎ ((take 2 word ≡ 48 ∷ 120 ∷ []) × Numeral 16 (2 ^ 64) (drop 2 word) v) → number_of word ≡ Some v
     back (inl m) = rw (unmarked (marked word) refl m) ((numeral_means 10 (2 ^ 64) word v).1 m)
     back (inr m) = rw ((marked-means word).1 m.0) ((numeral_means 16 (2 ^ 64) (drop 2 word) v).1 m.1)

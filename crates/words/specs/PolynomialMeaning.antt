@@ -4,14 +4,13 @@
 --   Exponents split v   two or more decimal numbers below 64, each smaller than the one before; v is the sum of their powers of two
 --
 -- Assumes nothing.
-use Rattle.std.specs.Prelude.{◌≡◌, refl, ◌⊎◌, ◌↔◌, Bool, true, false, ◌&&◌, List, [], ◌∷◌, ◌++◌, map, ℕ, zero, suc, ◌^◌, ◌≤◌, ◌<◌, ltb, length, get_or, take, drop}
+use Rattle.std.specs.Prelude.{◌≡◌, refl, ◌⊎◌, ◌↔◌, Bool, true, false, ◌&&◌, List, [], ◌∷◌, ◌++◌, map, ℕ, zero, suc, ◌^◌, ◌≤◌, ◌<◌, ltb, length, get_or, take, drop, None, Some}
 use Rattle.std.proofs.Common.{sym, ap, ◌∙◌, inl, inr, ⊎_elim, suc-le-suc, le_of_suc-le-suc, not-suc-le-zero, arith, take-append-drop, lt-ltb, ltb-true, ne_eqb}
 use Rattle.words.specs.Notation.{worth, value, spells, number_of, colon, parts, exponent, every_exponent, falling, powers, exponents_of, polynomial_of}
 use Rattle.words.specs.Spelling.{both_true, spells_has, has_spells}
 use Rattle.words.specs.Parts.{first_size}
 use Rattle.words.specs.Exponents.{summed-exponents, summed-below, polynomial-number}
 use Rattle.words.specs.NumberMeaning.{Numeral, digits-each, each-digits, number-means}
-use Rattle.words.specs.declared.answer.Word.TheVariants.{Unclear, Number}
 
 pub record Exponents (split : List (List ℕ)) (v : ℕ) : Type 0 where
   pub several : 2 ≤ length split
@@ -70,7 +69,7 @@ marked_plain : (word rest : List ℕ) → word ≡ 48 ∷ (120 ∷ rest) → fir
 unfolding first_size
 marked_plain word rest e f = rw (e, f)
 
-number_plain : (word : List ℕ) (v : ℕ) → number_of word ≡ Number v → first_size word ≡ length word
+number_plain : (word : List ℕ) (v : ℕ) → number_of word ≡ Some v → first_size word ≡ length word
 number_plain word v n =
     ⊎_elim
     (λ (m : Numeral 10 (2 ^ 64) word v). digits_plain 10 word (omega arith) m.digits)
@@ -80,48 +79,48 @@ number_plain word v n =
 
 -- ---- a polynomial
 
-exponents_hold : (split : List (List ℕ)) (v : ℕ) → exponents_of split ≡ Number v
+exponents_hold : (split : List (List ℕ)) (v : ℕ) → exponents_of split ≡ Some v
     → ((every_exponent split && falling (map (value 10) split)) ≡ true) × (powers (map (value 10) split) ≡ v)
 unfolding exponents_of
 exponents_hold split v n = go (every_exponent split && falling (map (value 10) split)) refl
   where
     go : (b : Bool) → (every_exponent split && falling (map (value 10) split)) ≡ b
         → ((every_exponent split && falling (map (value 10) split)) ≡ true) × (powers (map (value 10) split) ≡ v)
-    go true e = let m : Number (powers (map (value 10) split)) ≡ Number v = rw e at n in (e, cc)
+    go true e = let m : Some (powers (map (value 10) split)) ≡ Some v = rw e at n in (e, cc)
     go false e =
-        let m : Unclear ≡ Number v = rw e at n in
+        let m : None ≡ Some v = rw e at n in
         let z : ◌≡◌ {A = ℕ} 0 1 = cc in
         absurd (omega arith)
 
-exponents-several : (split : List (List ℕ)) (v : ℕ) → 2 ≤ length split → exponents_of split ≡ Number v → Exponents split v
+exponents-several : (split : List (List ℕ)) (v : ℕ) → 2 ≤ length split → exponents_of split ≡ Some v → Exponents split v
 exponents-several split v l n =
     let h = exponents_hold split v n in
     let t = both_true (every_exponent split) (falling (map (value 10) split)) h.0 in
     record { several = l; each = every_each split t.0; falls = falling-falls (map (value 10) split) t.1; sums = h.1 }
 
-exponents-number : (split : List (List ℕ)) (v : ℕ) → Exponents split v → exponents_of split ≡ Number v
+exponents-number : (split : List (List ℕ)) (v : ℕ) → Exponents split v → exponents_of split ≡ Some v
 unfolding exponents_of
 exponents-number split v m = rw (each_every split m.each, falls-falling (map (value 10) split) m.falls, m.sums)
 
-pub polynomial-means : (word : List ℕ) (v : ℕ) → (polynomial_of word ≡ Number v) ↔ ((number_of word ≡ Number v) ⊎ Exponents (parts word) v)
+pub polynomial-means : (word : List ℕ) (v : ℕ) → (polynomial_of word ≡ Some v) ↔ ((number_of word ≡ Some v) ⊎ Exponents (parts word) v)
 unfolding polynomial_of
 polynomial-means word v = (go (ltb 1 (length (parts word))) refl, back)
   where
-    go : (b : Bool) → ltb 1 (length (parts word)) ≡ b → polynomial_of word ≡ Number v → (number_of word ≡ Number v) ⊎ Exponents (parts word) v
+    go : (b : Bool) → ltb 1 (length (parts word)) ≡ b → polynomial_of word ≡ Some v → (number_of word ≡ Some v) ⊎ Exponents (parts word) v
     go true e n =
-        let m : exponents_of (parts word) ≡ Number v = rw e at n in
+        let m : exponents_of (parts word) ≡ Some v = rw e at n in
         inr (exponents-several (parts word) v (ltb-true 1 (length (parts word)) e) m)
-    go false e n = let m : number_of word ≡ Number v = rw e at n in inl m
+    go false e n = let m : number_of word ≡ Some v = rw e at n in inl m
 
-    back : (number_of word ≡ Number v) ⊎ Exponents (parts word) v → polynomial_of word ≡ Number v
+    back : (number_of word ≡ Some v) ⊎ Exponents (parts word) v → polynomial_of word ≡ Some v
     back (inl n) = sym (polynomial-number word (length word) (omega (arith, number_plain word v n)) refl) ∙ n
     back (inr m) = rw (lt-ltb 1 (length (parts word)) m.several) (exponents-number (parts word) v m)
 
 -- and the sum has 64 bits
-pub polynomial-below : (word : List ℕ) (v : ℕ) → polynomial_of word ≡ Number v → v < 2 ^ 64
+pub polynomial-below : (word : List ℕ) (v : ℕ) → polynomial_of word ≡ Some v → v < 2 ^ 64
 polynomial-below word v n =
     ⊎_elim
-    (λ (m : number_of word ≡ Number v).
+    (λ (m : number_of word ≡ Some v).
     ⊎_elim
     (λ (d : Numeral 10 (2 ^ 64) word v). d.below)
     (λ (d : (take 2 word ≡ 48 ∷ 120 ∷ []) × Numeral 16 (2 ^ 64) (drop 2 word) v). d.1.below)

@@ -1,6 +1,6 @@
 -- A number that `io` prints, in decimal or in hexadecimal after 0x, is read back as itself.
 -- Assumes nothing.
-use Rattle.std.specs.Prelude.{◌≡◌, Bool, true, false, List, [], ◌∷◌, ◌++◌, ltb, length}
+use Rattle.std.specs.Prelude.{◌≡◌, Bool, true, false, List, [], ◌∷◌, ◌++◌, ltb, length, Some}
 use Rattle.std.proofs.Math.Path.{refl}
 use Rattle.std.proofs.Common.{◌∙◌, inl, inr, div-add-mod', div-lt_iff_lt-mul, mod-lt, arith, length-append, lt-ltb, ltb-true, ltb-false}
 use Prim.Native.Nat.{ℕ, zero, suc, ◌+◌, ◌*◌, ◌/◌, ◌%◌, ◌^◌, ◌≤◌, ◌<◌}
@@ -10,7 +10,6 @@ use Rattle.words.specs.Notation.{worth, digits_only, value_after, value, number_
 use Rattle.words.specs.Digits.{worth-decimal, worth_letter}
 use Rattle.words.specs.Spelling.{both_true}
 use Rattle.words.specs.NumberMeaning.{digits-each, Numeral, number-means}
-use Rattle.words.specs.declared.answer.Word.TheVariants.{Number}
 
 -- ---- one digit
 
@@ -70,11 +69,11 @@ module _ (base : ℕ) (large : 2 ≤ base) (small : base ≤ 16) where
 
 -- ---- what is printed is read back
 
-pub printed_decimal : (v k : ℕ) → v < 2 ^ 64 → IsDigitCount 10 1 v k → number_of (last_digits 10 k v) ≡ Number v
+pub printed_decimal : (v k : ℕ) → v < 2 ^ 64 → IsDigitCount 10 1 v k → number_of (last_digits 10 k v) ≡ Some v
 printed_decimal v k h f = (number-means (last_digits 10 k v) v).1 (inl (printed_numeral 10 (omega arith) (omega arith) k v f.0 f.1 h))
 
 -- with zeros in front or without
-pub printed_hexadecimal : (v least k : ℕ) → v < 2 ^ 64 → 1 ≤ least → IsDigitCount 16 least v k → number_of (48 ∷ (120 ∷ last_digits 16 k v)) ≡ Number v
+pub printed_hexadecimal : (v least k : ℕ) → v < 2 ^ 64 → 1 ≤ least → IsDigitCount 16 least v k → number_of (48 ∷ (120 ∷ last_digits 16 k v)) ≡ Some v
 printed_hexadecimal v least k h l f =
     (number-means (48 ∷ (120 ∷ last_digits 16 k v)) v).1
     (inr (refl, printed_numeral 16 (omega arith) (omega arith) k v (omega (arith, f.0)) f.1 h))

@@ -5,12 +5,11 @@
 -- Assumes nothing.
 use Rattle.std.proofs.Math.Path.{◌≡◌, refl}
 use Rattle.std.proofs.Common.{sym, ◌∙◌, arith, length-drop, take_all}
-use Rattle.std.specs.Prelude.{Bool, ◌&&◌, List, [], ◌∷◌, ℕ, ◌-◌, ◌^◌, ◌≤◌, ◌<◌, eqb, length, take, drop}
+use Rattle.std.specs.Prelude.{Bool, ◌&&◌, List, [], ◌∷◌, ℕ, ◌-◌, ◌^◌, ◌≤◌, ◌<◌, eqb, length, take, drop, None, Some}
 use Rattle.std.proofs.Math.Bool.{true, false, cond, and-false}
 use Rattle.std.proofs.Math.Dec.{ltb}
 use borrow.Author.Tests.{lt-ltb, ltb-true}
 use Rattle.words.specs.Notation.{digits_only, value, spells, number_in, marked, number_of}
-use Rattle.words.specs.declared.answer.Word.TheVariants.{Unclear, Number}
 
 pub both_true : (a b : Bool) → (a && b) ≡ true → (a ≡ true) × (b ≡ true)
 both_true true b e = (refl, e)
@@ -35,60 +34,60 @@ module _ (base bound : ℕ) (word : List ℕ) where
   unfolding spells
   has_spells s = rw (lt-ltb 0 (length word) s.some, s.digits, lt-ltb (value base word) bound s.below)
 
-  pub number_spelled : (v : ℕ) → number_in base bound word ≡ Number v → Spells base bound word × (value base word ≡ v)
+  pub number_spelled : (v : ℕ) → number_in base bound word ≡ Some v → Spells base bound word × (value base word ≡ v)
   unfolding number_in
   number_spelled v n = go (spells base bound word) refl
     where
       go : (b : Bool) → spells base bound word ≡ b → Spells base bound word × (value base word ≡ v)
-      go true e = let m : Number (value base word) ≡ Number v = rw e at n in (spells_has e, cc)
+      go true e = let m : Some (value base word) ≡ Some v = rw e at n in (spells_has e, cc)
       go false e =
-          let m : Unclear ≡ Number v = rw e at n in
+          let m : None ≡ Some v = rw e at n in
           let z : ◌≡◌ {A = ℕ} 0 1 = cc in
           absurd (omega arith)
 
-  pub number-below : (v : ℕ) → number_in base bound word ≡ Number v → v < bound
+  pub number-below : (v : ℕ) → number_in base bound word ≡ Some v → v < bound
   number-below v n = let s = number_spelled v n in omega (arith, s.0.below, s.1)
 
-  pub spelled_number : (v : ℕ) → Spells base bound word → value base word ≡ v → Number v ≡ number_in base bound word
+  pub spelled_number : (v : ℕ) → Spells base bound word → value base word ≡ v → Some v ≡ number_in base bound word
   unfolding number_in
   spelled_number v s e = rw (has_spells s, e)
 
-  pub unclear_unspelled : number_in base bound word ≡ Unclear → spells base bound word ≡ false
+  pub unclear_unspelled : number_in base bound word ≡ None → spells base bound word ≡ false
   unfolding number_in
   unclear_unspelled n = go (spells base bound word) refl
     where
       go : (b : Bool) → spells base bound word ≡ b → spells base bound word ≡ false
       go true e =
-          let m : Number (value base word) ≡ Unclear = rw e at n in
+          let m : Some (value base word) ≡ None = rw e at n in
           let z : ◌≡◌ {A = ℕ} 0 1 = cc in
           absurd (omega arith)
       go false e = e
 
-  pub unspelled_unclear : (spells base bound word ≡ true → ⊥) → Unclear ≡ number_in base bound word
+  pub unspelled_unclear : (spells base bound word ≡ true → ⊥) → None ≡ number_in base bound word
   unfolding number_in
   unspelled_unclear h = go (spells base bound word) refl
     where
-      go : (b : Bool) → spells base bound word ≡ b → Unclear ≡ cond (spells base bound word) (Number (value base word)) Unclear
+      go : (b : Bool) → spells base bound word ≡ b → None ≡ cond (spells base bound word) (Some (value base word)) None
       go true e = absurd (h e)
       go false e = rw e
 
 -- ---- a smaller bound
 
 module _ (base bound wide : ℕ) (word : List ℕ) where
-  pub narrow_unclear : bound ≤ wide → number_in base wide word ≡ Unclear → Unclear ≡ number_in base bound word
+  pub narrow_unclear : bound ≤ wide → number_in base wide word ≡ None → None ≡ number_in base bound word
   narrow_unclear l n = unspelled_unclear base bound word λ e.
       let s = spells_has base bound word e in
       let t : true ≡ false = sym (has_spells base wide word record { some = s.some; digits = s.digits; below = omega (arith, s.below) }) ∙ unclear_unspelled base wide word n in
       let z : ◌≡◌ {A = ℕ} 0 1 = cc in
       omega arith
 
-  module _ (v : ℕ) (n : number_in base wide word ≡ Number v) where
-    pub narrow_number : v < bound → Number v ≡ number_in base bound word
+  module _ (v : ℕ) (n : number_in base wide word ≡ Some v) where
+    pub narrow_number : v < bound → Some v ≡ number_in base bound word
     narrow_number l =
         let p = number_spelled base wide word v n in
         spelled_number base bound word v record { some = p.0.some; digits = p.0.digits; below = omega (arith, p.1) } p.1
 
-    pub narrow_large : bound ≤ v → Unclear ≡ number_in base bound word
+    pub narrow_large : bound ≤ v → None ≡ number_in base bound word
     narrow_large l = unspelled_unclear base bound word λ e.
         omega (arith, (spells_has base bound word e).below, (number_spelled base wide word v n).1)
 

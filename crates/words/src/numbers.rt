@@ -1,26 +1,15 @@
 // The public call number: decimal, or hexadecimal after 0x.
 ghost use Rattle.std.specs.Prelude.{◌≡◌};
-ghost use Rattle.words.specs.Notation.{marked, number_of};
+ghost use Rattle.words.specs.Notation.{number_of};
 
-use super::answer::Word;
 use super::digits::digits;
 
-// Whether the word begins with 0x.
-fn marked(word: &[u8]) -> bool
-    ensures { result ≡ marked word.now }
-{
-    if word.len() < 2 {
-        return false;
-    }
-    word[0] == b'0' && word[1] == b'x'
-}
-
 // The number that a word means, in decimal or in hexadecimal.
-pub fn number(word: &[u8]) -> Word
+pub fn number(word: &[u8]) -> Option<u64>
     ensures { result ≡ number_of word.now }
 {
-    if marked(word) {
-        return digits(16, &word[2..]);
+    match word.strip_prefix(b"0x") {
+        Some(hexadecimal) => digits(16, hexadecimal),
+        None => digits(10, word),
     }
-    digits(10, word)
 }

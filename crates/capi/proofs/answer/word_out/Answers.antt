@@ -4,10 +4,10 @@ use mathlib.Core.Path.{sym, ap}
 use Rattle.capi.specs.Answers.{desk_word}
 use Rattle.capi.proofs.answer.word_out.Goals as goal
 
-pub returns-in-Unclear : goal.returns-in-Unclear
+pub returns-in-None : goal.returns-in-None
 unfolding desk_word
-returns-in-Unclear c = sym (ap desk_word c.in-Unclear.is)
+returns-in-None c = sym (ap desk_word c.in-None.is)
 
-pub returns-in-Number : goal.returns-in-Number
+pub returns-in-Some : goal.returns-in-Some
 unfolding desk_word
-returns-in-Number c = sym (ap desk_word c.in-Number.is)
+returns-in-Some c = sym (ap desk_word c.in-Some.is)

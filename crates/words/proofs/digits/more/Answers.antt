@@ -1,31 +1,19 @@
--- `words::digits::more` meets its contract: the quotient tells whether the new value has 64 bits.
+-- `words::digits::more` meets its contract: std reads the digit, and says whether the new value has 64 bits.
 -- Assumes nothing.
-use Prim.Native.Nat.{◌+◌, ◌*◌, ◌^◌, ◌<◌}
-use native.Mathlib.Omega.{arith}
-use Rattle.words.specs.Digits.{more_no_digit, more_too_large, more_fits, more-number}
-use Rattle.words.proofs.digits.more.Goals.{Else-digit-base}
+use Rattle.std.proofs.Common.{◌∙◌, arith}
+use Rattle.words.proofs.Worth.{more_stops, more_over, more_added}
 use Rattle.words.proofs.digits.more.Goals as goal
 
-pub returns-then-base-digit : goal.returns-then-base-digit
-returns-then-base-digit c =
-    more_no_digit c.args.base c.args.value c.worth-digit.result c.args.byte c.worth-digit.ensures c.if-base-digit.true
+pub returns-in_err-digit : goal.returns-in_err-digit
+returns-in_err-digit c =
+    c.from_residual.ensures ∙ more_stops c.args.base c.args.value c.args.byte c.requires.1 (rw (← c.from.ensures) c.in_err-digit.ensures.value)
 
-pub returns-then-digit-base : goal.returns-then-digit-base
-returns-then-digit-base c =
-    more_too_large c.args.base c.args.value c.worth-digit.result c.args.byte c.worth-digit.ensures c.requires.0 c.requires.1 c.if-base-digit.false
-    c.if-digit-base.true
-
--- the new value has 64 bits
-fits : (c : Else-digit-base) → c.args.value * c.args.base + c.worth-digit.result < 2 ^ 64
-fits c =
-    more_fits c.args.base c.args.value c.worth-digit.result c.args.byte c.worth-digit.ensures c.requires.0 c.requires.1 c.if-base-digit.false c.if-digit-base.false
-
-pub overflow_mul-result : goal.overflow_mul-result
-overflow_mul-result c = omega (arith, fits (goal.at.overflow_mul-result c).Else-digit-base)
-
-pub overflow_add-result : goal.overflow_add-result
-overflow_add-result c = omega (arith, fits (goal.at.overflow_add-result c).Else-digit-base)
+pub returns-in_err-shifted : goal.returns-in_err-shifted
+returns-in_err-shifted c =
+    c.from_residual-in_err-shifted.ensures ∙
+    more_over c.args.base c.args.value c.args.byte (omega (arith, rw c.from-2.ensures at c.in_err-shifted.ensures))
 
 pub returns : goal.returns
 returns c =
-    more-number c.args.base c.args.value c.worth-digit.result c.args.byte c.worth-digit.ensures c.requires.0 c.requires.1 c.if-base-digit.false (fits (goal.at.returns c).Else-digit-base)
+    more_added c.args.base c.args.value c.args.byte c.checked_add.result c.requires.0 c.requires.1 (rw c.from.ensures at c.in_ok-digit.ensures.value.0)
+    (rw (c.in_ok-shifted.ensures.1, c.from-2.ensures, c.from-3.ensures, c.in_ok-digit.ensures.value.1, c.from.ensures) at c.checked_add.ensures)

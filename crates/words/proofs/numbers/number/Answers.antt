@@ -1,27 +1,18 @@
 -- `words::numbers::number` meets its contract: after the mark 0x the digits are hexadecimal, without it decimal.
 -- Assumes nothing.
-use mathlib.Core.Path.{sym, ◌∙◌}
-use Prim.Native.Nat.{◌≤◌}
-use native.Mathlib.Omega.{arith}
-use lib.ListN.{length}
-use Rattle.words.specs.Spelling.{marked-long, hexadecimal_number, decimal-number}
-use Rattle.words.proofs.numbers.number.Goals.{Then-marked}
+use Rattle.std.proofs.Common.{◌≡◌, ◌∙◌, true, false, sym}
+use Rattle.words.specs.Notation.{marked, number_of}
+use Rattle.words.proofs.Cut.{marked-stripped}
 use Rattle.words.proofs.numbers.number.Goals as goal
 
--- there are two bytes before the digits
-long : (c : Then-marked) → 2 ≤ length c.args.word.now
-long c = marked-long c.args.word.now (sym c.marked.ensures ∙ c.if-marked.true)
+pub returns-in-Some : goal.returns-in-Some
+unfolding number_of
+returns-in-Some c =
+    let m : marked c.args.word.now ≡ true = sym (marked-stripped c.args.word.now) ∙ c.in-Some.ensures.cases.0 in
+    c.digits.ensures ∙ rw (m, c.in-Some.ensures.cases.1)
 
-pub slice_bounds-digits-count : goal.slice_bounds-digits-count
-slice_bounds-digits-count c = omega (arith, long (goal.at.slice_bounds-digits-count c).Then-marked)
-
-pub slice_bounds-digits-start : goal.slice_bounds-digits-start
-slice_bounds-digits-start c = omega (arith, long (goal.at.slice_bounds-digits-start c).Then-marked)
-
-pub returns-then-marked : goal.returns-then-marked
-returns-then-marked c =
-    c.digits.ensures ∙ hexadecimal_number c.args.word.now (sym c.marked.ensures ∙ c.if-marked.true)
-
-pub returns : goal.returns
-returns c =
-    c.digits-2.ensures ∙ decimal-number c.args.word.now (sym c.marked.ensures ∙ c.if-marked.false)
+pub returns-in-None : goal.returns-in-None
+unfolding number_of
+returns-in-None c =
+    let m : marked c.args.word.now ≡ false = sym (marked-stripped c.args.word.now) ∙ c.in-None.ensures.cases in
+    c.digits-in-None.ensures ∙ rw m
