@@ -15,7 +15,6 @@ use super::values::{list_space, put_values};
 use refusals::Checked;
 use std::io::Read;
 use streams::{Ending, Host, done_if};
-use words::Word;
 
 // The notation that values are carried to.
 #[derive(Clone, Copy)]
@@ -38,7 +37,7 @@ pub(crate) fn convert_list(
 
 // The value that word i has: an element if it is carried to normal coordinates, which may be written as exponents, and else
 // coordinates.
-fn value_at<H: Host>(host: &H, goal: Notation, i: usize) -> Word {
+fn value_at<H: Host>(host: &H, goal: Notation, i: usize) -> Option<u64> {
     match goal {
         Notation::Normal => polynomial_at(host, i),
         Notation::Polynomial => number_at(host, i),
@@ -55,7 +54,7 @@ fn values_of<H: Host>(
     requires { length values.old ≤ 4096 }
 {
     for i in 0..values.len() {
-        let Word::Number(value) = value_at(host, goal, places[VALUES_AT + i]) else {
+        let Some(value) = value_at(host, goal, places[VALUES_AT + i]) else {
             return false;
         };
         values[i] = value;

@@ -6,7 +6,6 @@ use super::options::{Given, WORDS_ROOM};
 use super::output::Output;
 use gf2::degree_of;
 use streams::{Ending, Host};
-use words::Word;
 
 pub(crate) fn check<H: Host>(
     places: &[usize; WORDS_ROOM],
@@ -16,7 +15,7 @@ pub(crate) fn check<H: Host>(
     if given.words != 2 {
         return wrong_count(output.host, places[0], b"check F");
     }
-    let Word::Number(f) = polynomial_at(output.host, places[1]) else {
+    let Some(f) = polynomial_at(output.host, places[1]) else {
         return Ending::BadWord;
     };
     answer_check(output, f)
@@ -30,13 +29,13 @@ pub(crate) fn multiply<H: Host>(
     if given.words != 4 {
         return wrong_count(output.host, places[0], b"multiply F A B");
     }
-    let Word::Number(f) = polynomial_at(output.host, places[1]) else {
+    let Some(f) = polynomial_at(output.host, places[1]) else {
         return Ending::BadWord;
     };
-    let Word::Number(a) = polynomial_at(output.host, places[2]) else {
+    let Some(a) = polynomial_at(output.host, places[2]) else {
         return Ending::BadWord;
     };
-    let Word::Number(b) = polynomial_at(output.host, places[3]) else {
+    let Some(b) = polynomial_at(output.host, places[3]) else {
         return Ending::BadWord;
     };
     answer_value(output, field::multiply(f, a, b))
@@ -50,10 +49,10 @@ pub(crate) fn square<H: Host>(
     if given.words != 3 {
         return wrong_count(output.host, places[0], b"square F A");
     }
-    let Word::Number(f) = polynomial_at(output.host, places[1]) else {
+    let Some(f) = polynomial_at(output.host, places[1]) else {
         return Ending::BadWord;
     };
-    let Word::Number(a) = polynomial_at(output.host, places[2]) else {
+    let Some(a) = polynomial_at(output.host, places[2]) else {
         return Ending::BadWord;
     };
     answer_value(output, field::square(f, a))
@@ -67,10 +66,10 @@ pub(crate) fn trace<H: Host>(
     if given.words != 3 {
         return wrong_count(output.host, places[0], b"trace F A");
     }
-    let Word::Number(f) = polynomial_at(output.host, places[1]) else {
+    let Some(f) = polynomial_at(output.host, places[1]) else {
         return Ending::BadWord;
     };
-    let Word::Number(a) = polynomial_at(output.host, places[2]) else {
+    let Some(a) = polynomial_at(output.host, places[2]) else {
         return Ending::BadWord;
     };
     answer_value(output, field::trace(f, a))
@@ -84,13 +83,13 @@ pub(crate) fn search<H: Host>(
     if given.words != 4 {
         return wrong_count(output.host, places[0], b"search F FIRST LAST");
     }
-    let Word::Number(f) = polynomial_at(output.host, places[1]) else {
+    let Some(f) = polynomial_at(output.host, places[1]) else {
         return Ending::BadWord;
     };
-    let Word::Number(first) = polynomial_at(output.host, places[2]) else {
+    let Some(first) = polynomial_at(output.host, places[2]) else {
         return Ending::BadWord;
     };
-    let Word::Number(last) = polynomial_at(output.host, places[3]) else {
+    let Some(last) = polynomial_at(output.host, places[3]) else {
         return Ending::BadWord;
     };
     answer_search(output, search::search(f, first, last), places, degree_of(f))

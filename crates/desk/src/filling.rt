@@ -6,7 +6,6 @@ use super::converting::Notation;
 use super::lines::{CHUNK, Cursor, Kind, Source, next_line};
 use std::io::Read;
 use streams::Host;
-use words::Word;
 
 // Why a list has no more values: it is full, or the next line would have to be waited for; the input has ended; the last line is no value; it is too long; a read failed.
 #[derive(Clone, Copy)]
@@ -35,7 +34,7 @@ enum Taken {
 }
 
 // The value that a word is: an element if it is carried to normal coordinates, which may be written as exponents, and else coordinates.
-fn value_of(goal: Notation, word: &[u8]) -> Word {
+fn value_of(goal: Notation, word: &[u8]) -> Option<u64> {
     match goal {
         Notation::Normal => words::polynomial(word),
         Notation::Polynomial => words::number(word),
@@ -44,8 +43,8 @@ fn value_of(goal: Notation, word: &[u8]) -> Word {
 
 fn take_word(goal: Notation, word: &[u8]) -> Taken {
     match value_of(goal, word) {
-        Word::Number(value) => Taken::Value(value),
-        Word::Unclear => Taken::Nothing(Stop::Unclear),
+        Some(value) => Taken::Value(value),
+        None => Taken::Nothing(Stop::Unclear),
     }
 }
 

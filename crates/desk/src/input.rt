@@ -9,7 +9,6 @@ use sheet::RECORD;
 use std::fs::File;
 use std::io::{Error, Read};
 use streams::{Host, cannot, read_whole, word_at};
-use words::Word;
 
 // Room for a word. No number needs as many bytes, but for zeros in front.
 pub(crate) const WORD_ROOM: usize = 256;
@@ -38,28 +37,28 @@ const ENAMETOOLONG: i32 = 36;
 const EILSEQ: i32 = 84;
 
 // Word i as a polynomial. If it is none, a line says so.
-pub(crate) fn polynomial_at<H: Host>(host: &H, i: usize) -> Word {
+pub(crate) fn polynomial_at<H: Host>(host: &H, i: usize) -> Option<u64> {
     let mut space = word_space();
     let size = word_at(host, i, &mut space);
     match words::polynomial(&space[..size]) {
-        Word::Unclear => {
+        None => {
             no_polynomial(host, i);
-            Word::Unclear
+            None
         }
-        Word::Number(number) => Word::Number(number),
+        Some(number) => Some(number),
     }
 }
 
 // Word i as a number. If it is none, a line says so.
-pub(crate) fn number_at<H: Host>(host: &H, i: usize) -> Word {
+pub(crate) fn number_at<H: Host>(host: &H, i: usize) -> Option<u64> {
     let mut space = word_space();
     let size = word_at(host, i, &mut space);
     match words::number(&space[..size]) {
-        Word::Unclear => {
+        None => {
             no_number(host, i);
-            Word::Unclear
+            None
         }
-        Word::Number(number) => Word::Number(number),
+        Some(number) => Some(number),
     }
 }
 

@@ -15,7 +15,6 @@ use gf2::LIMIT;
 use matrices::{TEXT_LIMIT, read_matrices, text_size, write_matrices};
 use sheet::Issued;
 use streams::{Ending, Host, done_if};
-use words::Word;
 
 // Room for the longest text, and one byte by which a longer input shows. Every right text is shorter than this room. So the bytes that
 // fill it decide on a longer input too: it is refused, at the same place as its beginning.
@@ -86,10 +85,10 @@ pub(crate) fn read<H: Host>(
             b"read-matrices F ELEMENT < TEXT, or desk read-matrices F ELEMENT --from TEXT",
         );
     }
-    let Word::Number(f) = polynomial_at(output.host, places[1]) else {
+    let Some(f) = polynomial_at(output.host, places[1]) else {
         return Ending::BadWord;
     };
-    let Word::Number(element) = polynomial_at(output.host, places[2]) else {
+    let Some(element) = polynomial_at(output.host, places[2]) else {
         return Ending::BadWord;
     };
     let mut text = text_space();

@@ -6,7 +6,6 @@ use super::output::Output;
 use gf2::degree_of;
 use refusals::Refusal;
 use streams::{Ending, Host, word_at};
-use words::Word;
 
 // The refusal of a candidate for a basis, coordinates or a range end with more bits than the degree.
 pub(crate) const TOO_LARGE: u8 = 4;
@@ -106,8 +105,8 @@ fn exceeds<H: Host>(host: &H, i: usize, degree: u32) -> bool {
     let mut space = word_space();
     let size = word_at(host, i, &mut space);
     match words::polynomial(&space[..size]) {
-        Word::Unclear => false,
-        Word::Number(number) => degree_of(number) >= degree,
+        None => false,
+        Some(number) => degree_of(number) >= degree,
     }
 }
 

@@ -14,7 +14,6 @@ use gf2::{LIMIT, degree_of};
 use refusals::Value;
 use sheet::{Issued, RECORD};
 use streams::{Ending, Host, done_if};
-use words::Word;
 
 // Room for the longest sheet.
 const SHEET_ROOM: usize = RECORD * LIMIT;
@@ -65,10 +64,10 @@ fn build_words<H: Host>(
     output: &mut Output<'_, H>,
     places: &[usize; WORDS_ROOM],
 ) -> Ending {
-    let Word::Number(f) = polynomial_at(output.host, places[1]) else {
+    let Some(f) = polynomial_at(output.host, places[1]) else {
         return Ending::BadWord;
     };
-    let Word::Number(element) = polynomial_at(output.host, places[2]) else {
+    let Some(element) = polynomial_at(output.host, places[2]) else {
         return Ending::BadWord;
     };
     answer_built(purpose, output, f, element, places)
@@ -235,10 +234,10 @@ pub(crate) fn times<H: Host>(
     if given.words != 4 {
         return wrong_count(output.host, places[0], b"times SHEET A B");
     }
-    let Word::Number(a) = number_at(output.host, places[2]) else {
+    let Some(a) = number_at(output.host, places[2]) else {
         return Ending::BadWord;
     };
-    let Word::Number(b) = number_at(output.host, places[3]) else {
+    let Some(b) = number_at(output.host, places[3]) else {
         return Ending::BadWord;
     };
     answer_operation(Operation::Product(a, b), places, output)
@@ -252,7 +251,7 @@ pub(crate) fn inverse<H: Host>(
     if given.words != 3 {
         return wrong_count(output.host, places[0], b"inverse SHEET A");
     }
-    let Word::Number(a) = number_at(output.host, places[2]) else {
+    let Some(a) = number_at(output.host, places[2]) else {
         return Ending::BadWord;
     };
     answer_operation(Operation::Inverse(a), places, output)
@@ -266,10 +265,10 @@ pub(crate) fn quotient<H: Host>(
     if given.words != 4 {
         return wrong_count(output.host, places[0], b"quotient SHEET A B");
     }
-    let Word::Number(a) = number_at(output.host, places[2]) else {
+    let Some(a) = number_at(output.host, places[2]) else {
         return Ending::BadWord;
     };
-    let Word::Number(b) = number_at(output.host, places[3]) else {
+    let Some(b) = number_at(output.host, places[3]) else {
         return Ending::BadWord;
     };
     answer_operation(Operation::Quotient(a, b), places, output)
