@@ -6,7 +6,7 @@
 --   peeled_less, peeled_turn    a turn, and the rest is less
 --
 -- Assumes nothing.
-use Rattle.std.specs.Prelude.{◌≡◌, ◌⊎◌, cond, ℕ, ◌≤◌, ◌<◌, ltb}
+use Rattle.std.specs.Prelude.{◌≡◌, ◌⊎◌, cond, ℕ, min, ◌≤◌, ◌<◌, ltb}
 use Rattle.std.proofs.Common.{sym, ap, ◌∙◌, inl, inr, ⊎_elim, arith, lt-ltb, le-ltb}
 use Rattle.gf2.specs.Poly.{product, degree, Degree, Divides}
 use Rattle.gf2.specs.Numbers.{order}
@@ -27,6 +27,14 @@ smaller-left a b h = rw (le-ltb b a h)
 pub smaller-right : (a b : ℕ) → b < a → smaller a b ≡ b
 unfolding smaller
 smaller-right a b h = rw (lt-ltb b a h)
+
+-- the library's word for it
+pub min-smaller : (a b : ℕ) → min a b ≡ smaller a b
+min-smaller a b =
+    ⊎_elim
+    (λ (h : b < a). let e : min a b ≡ b = omega arith in e ∙ sym (smaller-right a b h))
+    (λ (h : a ≤ b). let e : min a b ≡ a = omega arith in e ∙ sym (smaller-left a b h))
+    (order b a)
 
 pub record Peeled (g best rest : ℕ) : Type 0 where
   pub pos : 1 ≤ rest

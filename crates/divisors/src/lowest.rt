@@ -22,10 +22,8 @@ pub fn lowest_part(f: u64, n: u32) -> Part
     ensures { Level result.degree result.value × (smallest_divisor result.value ≡ smallest_divisor f) }
 {
     let mut y: u64 = 2;
-    let mut i: u32 = 0;
-    while i < n / 2 {
+    for i in 1..=n / 2 {
         y = multiply(f, n, y, y);
-        i += 1;
         let g = greatest_common(f, y ^ 2);
         if g != 1 {
             return Part {

@@ -3,18 +3,10 @@ ghost use Rattle.std.specs.Prelude.{◌≡◌, ◌≤◌};
 ghost use Rattle.gf2.specs.Poly.{Degree};
 ghost use Rattle.divisors.specs.Smallest.{smallest_divisor};
 ghost use Rattle.divisors.specs.Level.{Level};
-ghost use Rattle.divisors.specs.Peeling.{smaller};
 
 use super::lowest::lowest_part;
 use super::quotient::quotient;
 use super::splitting::irreducible_divisor;
-
-// The smaller of two numbers.
-fn smaller_of(a: u64, b: u64) -> u64
-    ensures { result ≡ smaller a b }
-{
-    if b < a { b } else { a }
-}
 
 // The smallest divisor of g, all of whose irreducible divisors have degree i. They are found in no order of size, so all are taken off.
 fn smallest_of_level(g: u64, i: u32) -> u64
@@ -25,7 +17,7 @@ fn smallest_of_level(g: u64, i: u32) -> u64
     let mut rest = g;
     while rest != 1 {
         let p = irreducible_divisor(rest, i);
-        best = smaller_of(best, p);
+        best = best.min(p);
         rest = quotient(rest, p);
     }
     best

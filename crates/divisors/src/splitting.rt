@@ -14,28 +14,28 @@ fn first_conjugates_sum(g: u64, m: u32, i: u32, a: u64) -> u64
     ensures { result ≡ trace_to g m i a }
 {
     let mut sum: u64 = 0;
-    let mut done: u32 = 0;
-    while done < i {
+    for _done in 0..i {
         sum = multiply(g, m, sum, sum) ^ a;
-        done += 1;
     }
     sum
 }
 
 // A divisor of g, of degree m, other than 1 and g: the greatest common divisor of g and such a sum, the first for x, x^3, x^5, .. that is
-// neither 0 nor 1. There is one below x^m, so the loop needs no bound. Even powers give nothing new and are passed over: modulo g an element
-// and its square have the same sum, so the sum for x^2 is that for x, and the sum for x^6 that for x^3. The sum for 1 is always 0 or 1.
+// neither 0 nor 1. There is one below x^m, so the loop does not end without one. Even powers give nothing new and are passed over: modulo g
+// an element and its square have the same sum, so the sum for x^2 is that for x, and the sum for x^6 that for x^3. The sum for 1 is always
+// 0 or 1.
 fn split(g: u64, m: u32, i: u32) -> u64
     requires { Degree g m × Level i g × (i < m) }
     ensures { (2 ≤ result) × (result < g) × Divides result g }
 {
-    let mut k: u32 = 1;
-    let mut t = first_conjugates_sum(g, m, i, 2);
-    while t < 2 {
-        k += 2;
-        t = first_conjugates_sum(g, m, i, power_of_x(k));
+    for j in 0..m / 2 {
+        let t = first_conjugates_sum(g, m, i, power_of_x(2 * j + 1));
+        let splits = 2 <= t;
+        if splits {
+            return greatest_common(g, t);
+        }
     }
-    greatest_common(g, t)
+    unreachable!()
 }
 
 // An irreducible divisor of g: g is split until the degree is i.

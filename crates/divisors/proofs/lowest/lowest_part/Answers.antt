@@ -1,6 +1,6 @@
 -- `divisors::lowest::lowest_part` meets its contract: the goals that the check leaves. Its loop is told in `Invariants.antt`. Assumes nothing.
 use mathlib.Core.Path.{◌≡◌, refl}
-use Prim.Native.Nat.{ℕ, ◌+◌, ◌/◌, ◌^◌, ◌<◌}
+use Prim.Native.Nat.{ℕ, ◌+◌, ◌-◌, ◌/◌, ◌^◌, ◌<◌}
 use native.Mathlib.Omega.{arith}
 use lib.Bits.{bit_xor}
 use lib.Pow.{pow_pos}
@@ -43,7 +43,7 @@ pub multiply-y-requires : goal.multiply-y-requires
 multiply-y-requires c =
     record {
       is_degree = c.requires.1;
-      below = y-lt c.args.f c.args.n c.requires.1 c.loop-i.i c.loop-i.y (omega (arith, c.loop-i-test.true)) c.loop-i.invariant.0;
+      below = y-lt c.args.f c.args.n c.requires.1 (c.loop-i.i - 1) c.loop-i.y (omega arith) c.loop-i.invariant.0;
     }
 
 pub greatest_common-g-requires : goal.greatest_common-g-requires
@@ -51,14 +51,24 @@ greatest_common-g-requires c = f-pos c.args.f c.args.n c.requires.1
 
 pub returns-then-g-ne1 : goal.returns-then-g-ne1
 returns-then-g-ne1 c =
-    found c.args.f c.args.n c.requires.1 c.loop-i.i c.loop-i.y (omega (arith, c.loop-i-test.true)) c.loop-i.invariant.0
-    c.multiply-y.result c.greatest_common-g.result c.multiply-y.ensures c.greatest_common-g.ensures c.loop-i.invariant.1 c.if-g-ne1.true
+    let turn : c.loop-i.i ≡ c.loop-i.i - 1 + 1 = omega arith in
+    rw turn
+    (found c.args.f c.args.n c.requires.1 (c.loop-i.i - 1) c.loop-i.y (omega arith) c.loop-i.invariant.0
+    c.multiply-y.result c.greatest_common-g.result c.multiply-y.ensures c.greatest_common-g.ensures c.loop-i.invariant.1 c.if-g-ne1.true)
 
 pub loop-i-preserved : goal.loop-i-preserved
 loop-i-preserved c =
-    again c.args.f c.args.n c.requires.1 c.loop-i.i c.loop-i.y (omega (arith, c.loop-i-test.true)) c.loop-i.invariant.0
-    c.multiply-y.result c.greatest_common-g.result c.multiply-y.ensures c.greatest_common-g.ensures c.loop-i.invariant.1 c.if-g-ne1.false
+    let turn : c.loop-i.i + 1 - 1 ≡ c.loop-i.i - 1 + 1 = omega arith in
+    rw turn
+    (again c.args.f c.args.n c.requires.1 (c.loop-i.i - 1) c.loop-i.y (omega arith) c.loop-i.invariant.0
+    c.multiply-y.result c.greatest_common-g.result c.multiply-y.ensures c.greatest_common-g.ensures c.loop-i.invariant.1 c.if-g-ne1.false)
 
 pub returns : goal.returns
 returns c =
-    (lowest_none c.args.f c.args.n c.loop-i.i c.requires.1 c.requires.0 (omega (arith, c.loop-i-test.false)) c.loop-i.invariant.1, refl)
+    (lowest_none c.args.f c.args.n (c.loop-i.i - 1) c.requires.1 c.requires.0 (omega arith) c.loop-i.invariant.1, refl)
+
+pub returns-else-g-ne1 : goal.returns-else-g-ne1
+returns-else-g-ne1 c =
+    let last = again c.args.f c.args.n c.requires.1 (c.loop-i.i - 1) c.loop-i.y (omega arith) c.loop-i.invariant.0
+    c.multiply-y.result c.greatest_common-g.result c.multiply-y.ensures c.greatest_common-g.ensures c.loop-i.invariant.1 c.if-g-ne1.false in
+    (lowest_none c.args.f c.args.n (c.loop-i.i - 1 + 1) c.requires.1 c.requires.0 (omega arith) last.1, refl)

@@ -1,7 +1,7 @@
 -- `divisors::peeling::smallest_of_level` meets its contract: the goals that the check leaves. Its loop is told in `Invariants.antt`. Assumes nothing.
-use native.Mathlib.Omega.{arith}
+use Rattle.std.proofs.Common.{◌∙◌, arith}
 use Rattle.divisors.specs.Level.{level_part}
-use Rattle.divisors.specs.Peeling.{peeled_start, peeled_turn, peeled_less, peeled_done}
+use Rattle.divisors.specs.Peeling.{peeled_start, peeled_turn, peeled_less, peeled_done, min-smaller}
 use Rattle.divisors.proofs.peeling.smallest_of_level.Goals as goal
 
 pub loop-rest-init : goal.loop-rest-init
@@ -23,7 +23,7 @@ loop-rest-smaller c =
 pub loop-rest-preserved : goal.loop-rest-preserved
 loop-rest-preserved c =
     peeled_turn c.args.g c.requires.two c.loop-rest.best c.loop-rest.rest c.irreducible_divisor-p.result c.quotient-rest.result c.loop-rest.invariant
-    c.irreducible_divisor-p.ensures.0 c.irreducible_divisor-p.ensures.1 c.quotient-rest.ensures c.smaller_of-best.result c.smaller_of-best.ensures
+    c.irreducible_divisor-p.ensures.0 c.irreducible_divisor-p.ensures.1 c.quotient-rest.ensures c.min-best.result (c.min-best.ensures ∙ min-smaller _ _)
 
 pub returns : goal.returns
 returns c =

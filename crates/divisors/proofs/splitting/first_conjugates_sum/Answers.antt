@@ -1,6 +1,6 @@
 -- `divisors::splitting::first_conjugates_sum` meets its contract: the goals that the check leaves. Its loop is told in `Invariants.antt`. Assumes nothing.
 use mathlib.Core.Path.{◌≡◌, refl, ap, ◌∙◌}
-use Prim.Native.Nat.{ℕ, ◌+◌, ◌≤◌}
+use Prim.Native.Nat.{ℕ, ◌+◌}
 use native.Mathlib.Numerals.{add-one}
 use native.Mathlib.Omega.{arith}
 use lib.Bits.{bit_xor}
@@ -17,23 +17,21 @@ turn : (g m k a sum s : ℕ) → Degree g m → sum ≡ trace_to g m k a → s �
 unfolding trace_to ◌⊕◌
 turn g m k a sum s deg e es = rw (add-one, es, e) (trace_to-square g m deg k a)
 
-all_done : (g m k i a sum : ℕ) → k ≤ i → i ≤ k → sum ≡ trace_to g m k a → sum ≡ trace_to g m i a
-all_done g m k i a sum p q e = let s : k ≡ i = omega arith in e ∙ ap (λ (x : ℕ). trace_to g m x a) s
-
 pub loop-done-init : goal.loop-done-init
-loop-done-init c = (omega arith, none c.args.g c.args.m c.args.a)
+loop-done-init c = none c.args.g c.args.m c.args.a
 
 pub multiply-requires : goal.multiply-requires
 multiply-requires c =
     record {
       is_degree = c.requires.is_degree;
-      below = rw c.loop-done.invariant.1 (trace_to-lt c.args.g c.args.m c.requires.is_degree c.loop-done.done c.args.a c.requires.below);
+      below = rw c.loop-done.invariant (trace_to-lt c.args.g c.args.m c.requires.is_degree c.loop-done._done c.args.a c.requires.below);
     }
 
 pub loop-done-preserved : goal.loop-done-preserved
 loop-done-preserved c =
-    (omega arith, turn c.args.g c.args.m c.loop-done.done c.args.a c.loop-done.sum c.multiply.result c.requires.is_degree c.loop-done.invariant.1 c.multiply.ensures)
+    turn c.args.g c.args.m c.loop-done._done c.args.a c.loop-done.sum c.multiply.result c.requires.is_degree c.loop-done.invariant c.multiply.ensures
 
 pub returns : goal.returns
 returns c =
-    all_done c.args.g c.args.m c.loop-done.done c.args.i c.args.a c.loop-done.sum c.loop-done.invariant.0 c.loop-done-test.false c.loop-done.invariant.1
+    let all : c.loop-done._done ≡ c.args.i = omega arith in
+    c.loop-done.invariant ∙ ap (λ (x : ℕ). trace_to c.args.g c.args.m x c.args.a) all
