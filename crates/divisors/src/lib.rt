@@ -3,7 +3,6 @@
 
 mod lowest;
 mod peeling;
-mod powers;
 mod quotient;
 mod splitting;
 

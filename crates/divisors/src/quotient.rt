@@ -2,8 +2,7 @@
 ghost use Rattle.std.specs.Prelude.{◌≡◌, ◌<◌};
 ghost use Rattle.gf2.specs.Poly.{product, Divides};
 
-use super::powers::power_of_x;
-use gf2::degree_of;
+use gf2::{degree_of, power};
 
 // The quotient of a, which is not 0, by d, which divides a. Each turn moves d up to the highest coefficient that is left, and takes it
 // away.
@@ -16,7 +15,7 @@ pub fn quotient(a: u64, d: u64) -> u64
     let mut left = a;
     while left != 0 {
         let k = degree_of(left) - m;
-        q = q ^ power_of_x(k);
+        q = q ^ power(k as usize);
         left = left ^ (d << k);
     }
     q

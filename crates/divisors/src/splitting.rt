@@ -4,8 +4,7 @@ ghost use Rattle.gf2.specs.Poly.{Degree, Element, Divides};
 ghost use Rattle.field.specs.Field.{trace_to, Irreducible};
 ghost use Rattle.divisors.specs.Level.{Level};
 
-use super::powers::power_of_x;
-use gf2::{degree_of, greatest_common, multiply};
+use gf2::{degree_of, greatest_common, multiply, power};
 
 // The sum of the first i conjugates of a modulo g, of degree m. The square of such a sum has the conjugates that follow, and a is added
 // to them.
@@ -29,7 +28,7 @@ fn split(g: u64, m: u32, i: u32) -> u64
     ensures { (2 ≤ result) × (result < g) × Divides result g }
 {
     for j in 0..m / 2 {
-        let t = first_conjugates_sum(g, m, i, power_of_x(2 * j + 1));
+        let t = first_conjugates_sum(g, m, i, power(2 * j as usize + 1));
         let splits = 2 <= t;
         if splits {
             return greatest_common(g, t);

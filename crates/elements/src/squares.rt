@@ -6,8 +6,8 @@ ghost use Rattle.rows.specs.ByteSums.{bytes, byte_sums};
 ghost use Rattle.elements.specs.Fields.{FieldOf, ElementOf};
 ghost use Rattle.elements.specs.Squares.{square_rows};
 
-use gf2::{LIMIT, square};
-use rows::{BYTE_SUMS, byte_sums, power, sum_by_bytes};
+use gf2::{LIMIT, power, square};
+use rows::{BYTE_SUMS, byte_sums, sum_by_bytes};
 
 // The squares of x^0 to x^(n-1).
 fn square_rows(spread: &[u16; 256], f: u64, n: u32) -> [u64; LIMIT]

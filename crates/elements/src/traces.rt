@@ -8,8 +8,8 @@ ghost use Rattle.elements.specs.Traces.{trace_mask, ModulusOf};
 
 use super::modulus::Modulus;
 use super::squares::square_by_bytes;
-use gf2::picked;
-use rows::{BYTE_SUMS, power};
+use gf2::{picked, power};
+use rows::BYTE_SUMS;
 
 // The sum of the n conjugates of a, each squared by the tables.
 fn trace_of(squares: &[u64; BYTE_SUMS], f: u64, n: u32, a: u64) -> u64

@@ -5,8 +5,8 @@ ghost use Rattle.rows.specs.ByteSums.{bytes, byte_sums};
 ghost use Rattle.elements.specs.Reference.{Reference};
 ghost use Rattle.elements.specs.Upper.{upper_rows};
 
-use gf2::{LIMIT, multiply_by_x};
-use rows::{BYTE_SUMS, byte_sums, power, sum_by_bytes};
+use gf2::{LIMIT, multiply_by_x, power};
+use rows::{BYTE_SUMS, byte_sums, sum_by_bytes};
 
 // The coordinates of x^n to x^(2n-1), where sums are those of the reference.
 fn upper_rows(sums: &[u64; BYTE_SUMS], f: u64, n: u32) -> [u64; LIMIT]

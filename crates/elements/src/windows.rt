@@ -5,8 +5,7 @@ ghost use Rattle.gf2.specs.Poly.{mul_mod, Degree};
 ghost use Rattle.elements.specs.Multiples.{multiples_of};
 ghost use Rattle.elements.specs.Windows.{roomy, four_windows, Unreduced};
 
-use gf2::multiply_by_x;
-use rows::power;
+use gf2::{multiply_by_x, power};
 
 // A polynomial of degree below 2n: low + high x^n.
 #[derive(Clone, Copy)]

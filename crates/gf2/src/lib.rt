@@ -5,6 +5,7 @@ mod degree;
 mod division;
 mod euclid;
 mod multiplication;
+mod powers;
 mod spread;
 mod squaring;
 
@@ -12,5 +13,6 @@ pub use degree::{LIMIT, degree_of};
 pub use division::{element_of, picked};
 pub use euclid::greatest_common;
 pub use multiplication::{multiply, multiply_by_x};
+pub use powers::power;
 pub use spread::spread_table;
 pub use squaring::square;

@@ -1,13 +1,5 @@
-// Powers of two, and the number of binary digits.
-ghost use Rattle.std.specs.Prelude.{◌≡◌, ◌+◌, ◌*◌, ◌^◌, ◌≤◌, ◌<◌};
-
-// 2^k, which as a polynomial is x^k.
-pub fn power(k: usize) -> u64
-    requires { k < 64 }
-    ensures { result ≡ 2 ^ k }
-{
-    1u64 << k
-}
+// The number of binary digits.
+ghost use Rattle.std.specs.Prelude.{◌+◌, ◌*◌, ◌^◌, ◌≤◌, ◌<◌};
 
 // The number of binary digits of x, which is 0 for 0.
 pub fn width(x: u64) -> usize

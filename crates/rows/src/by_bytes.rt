@@ -6,8 +6,7 @@ ghost use Rattle.rows.specs.Rows.{Matrix};
 ghost use Rattle.rows.specs.ByteSums.{bytes, byte_sums, picked_bytes};
 ghost use Rattle.rows.specs.Doubling.{doubled, tabled, tables};
 
-use super::bits::power;
-use gf2::LIMIT;
+use gf2::{LIMIT, power};
 
 // The bytes of a number below 2^LIMIT, and so the tables of a matrix. The specs have it as `bytes`.
 const BYTES: usize = (LIMIT + 7) / 8;

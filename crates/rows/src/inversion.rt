@@ -5,9 +5,9 @@ ghost use Rattle.gf2.specs.Limit.{limit};
 ghost use Rattle.rows.specs.Rows.{Matrix, Inverts};
 ghost use Rattle.rows.specs.Added.{added};
 
-use super::bits::{power, width};
+use super::bits::width;
 use super::sums::sum;
-use gf2::{LIMIT, picked};
+use gf2::{LIMIT, picked, power};
 
 // Row is added to each of the first count reduced rows that has the column's bit, so that none of them has it, and is put at the
 // column's place; the names follow. Rows and names are two arrays, and not one of pairs, since `sum` adds entries of either, and the names

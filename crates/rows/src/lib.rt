@@ -7,7 +7,6 @@ mod by_bytes;
 mod inversion;
 mod sums;
 
-pub use bits::power;
 pub use by_bytes::{BYTE_SUMS, WORD_ROWS, WORD_SUMS, byte_sums, degree_sums, sum_by_bytes};
 pub use inversion::invert;
 pub use sums::sum;

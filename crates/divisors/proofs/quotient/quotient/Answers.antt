@@ -54,8 +54,8 @@ n-below : (c : After-degree_of) → c.degree_of.result < 64
 n-below c =
     left_lt c.loop-left.left c.degree_of.result c.loop-left-test.true c.degree_of.ensures c.loop-left.invariant.1
 
-pub power_of_x-q-requires : goal.power_of_x-q-requires
-power_of_x-q-requires c = omega (arith, n-below (goal.at.power_of_x-q-requires c).After-degree_of)
+pub power-q-requires : goal.power-q-requires
+power-q-requires c = omega (arith, n-below (goal.at.power-q-requires c).After-degree_of)
 
 pub overflow_shl-left : goal.overflow_shl-left
 overflow_shl-left c = omega (arith, n-below (goal.at.overflow_shl-left c).After-degree_of)
@@ -66,7 +66,7 @@ loop-left-smaller c =
 
 pub loop-left-preserved : goal.loop-left-preserved
 loop-left-preserved c =
-    turn c.args.a c.args.d _ c.loop-left.q c.loop-left.left c.degree_of.result c.loop-left-test.true c.degree_of.ensures c.loop-left.invariant _ refl c.power_of_x-q.result c.power_of_x-q.ensures
+    turn c.args.a c.args.d _ c.loop-left.q c.loop-left.left c.degree_of.result c.loop-left-test.true c.degree_of.ensures c.loop-left.invariant _ refl c.power-q.result c.power-q.ensures
 
 pub returns : goal.returns
 returns c =

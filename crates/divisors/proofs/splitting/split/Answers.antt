@@ -58,13 +58,13 @@ overflow_mul-j c = omega (arith, c.loop-j.invariant.0, m-lt (goal.at.overflow_mu
 pub overflow_add-j : goal.overflow_add-j
 overflow_add-j c = omega (arith, c.loop-j.invariant.0, m-lt (goal.at.overflow_add-j c).Start)
 
-pub power_of_x-requires : goal.power_of_x-requires
-power_of_x-requires c = omega (arith, c.loop-j.invariant.0, m-lt (goal.at.power_of_x-requires c).Start)
+pub power-requires : goal.power-requires
+power-requires c = omega (arith, c.loop-j.invariant.0, m-lt (goal.at.power-requires c).Start)
 
 pub first_conjugates_sum-t-requires : goal.first_conjugates_sum-t-requires
 first_conjugates_sum-t-requires c =
     let h = c.loop-j.invariant.0 in
-    record { is_degree = c.requires.0; below = rw c.power_of_x.ensures (pow-lt h) }
+    record { is_degree = c.requires.0; below = rw c.power.ensures (pow-lt h) }
 
 pub greatest_common-requires : goal.greatest_common-requires
 greatest_common-requires c =
@@ -73,10 +73,10 @@ greatest_common-requires c =
 
 pub returns-then-splits : goal.returns-then-splits
 returns-then-splits c =
-    found c.args.g c.args.m c.args.i c.requires c.loop-j.j c.power_of_x.result c.first_conjugates_sum-t.result c.loop-j.invariant c.power_of_x.ensures c.first_conjugates_sum-t.ensures
+    found c.args.g c.args.m c.args.i c.requires c.loop-j.j c.power.result c.first_conjugates_sum-t.result c.loop-j.invariant c.power.ensures c.first_conjugates_sum-t.ensures
     c.greatest_common.result (omega (arith, c.if-splits.true)) c.greatest_common.ensures
 
 pub loop-j-preserved : goal.loop-j-preserved
 loop-j-preserved c =
-    again c.args.g c.args.m c.args.i c.requires c.loop-j.j c.power_of_x.result c.first_conjugates_sum-t.result c.loop-j.invariant c.power_of_x.ensures c.first_conjugates_sum-t.ensures
+    again c.args.g c.args.m c.args.i c.requires c.loop-j.j c.power.result c.first_conjugates_sum-t.result c.loop-j.invariant c.power.ensures c.first_conjugates_sum-t.ensures
     (omega (arith, c.if-splits.false))

@@ -1,8 +1,8 @@
 // Powers of x.
 ghost use Rattle.std.specs.Prelude.{◌≡◌, ◌^◌, ◌<◌};
 
-// x^k, which a word can hold.
-pub fn power_of_x(k: u32) -> u64
+// x^k, which as a number is 2^k.
+pub fn power(k: usize) -> u64
     requires { k < 64 }
     ensures { result ≡ 2 ^ k }
 {
