@@ -17,9 +17,10 @@ fn least_complexity(f: u64, last: u64) -> u64 {
 }
 
 fn print_least(rt: &impl Print) -> io::Result<()> {
-    for n in 2..21 {
+    for (i, f) in FIELDS.iter().enumerate() {
+        let n = i as u32 + 2;
         let last = u64::MAX >> (64 - n);
-        let least = least_complexity(FIELDS[n as usize - 2], last);
+        let least = least_complexity(*f, last);
         println!(rt; "{}", TableRow(n, least))?;
     }
     Ok(())

@@ -64,12 +64,11 @@ const SHORT: usize = 40;
 const LONG: usize = 60;
 
 // The sheet with the tail in bytes 2-7 of every record.
-fn with_tail(tail: u64, sheet: [u8; LARGEST]) -> [u8; LARGEST] {
-    let mut bytes = sheet;
-    for record in bytes.chunks_exact_mut(RECORD) {
+fn with_tail(tail: u64, mut sheet: [u8; LARGEST]) -> [u8; LARGEST] {
+    for record in sheet.chunks_exact_mut(RECORD) {
         record[2..8].copy_from_slice(&tail.to_le_bytes()[..6]);
     }
-    bytes
+    sheet
 }
 
 // How many words are as they should be on the sheet of x in the field of f, of degree n. The sheet is given the polynomial that is made of f
@@ -118,7 +117,7 @@ fn print_counts<P: Fn(u64, u64) -> u64>(
     requires { P.IsAlwaysCallable polynomial }
 {
     println!(rt;
-        "{name}: product {}, square {}, coordinates {}, return trip {}, lists of 40 {}, lists of 60 {}",
+        "{name}: product {}, square {}, coordinates {}, return trip {}, lists of {SHORT} {}, lists of {LONG} {}",
         count_degrees(
             &polynomial,
             |trial| trial.count_words(|word, other| trial.product_holds(word, other))

@@ -2,8 +2,8 @@
 // remainder here is a plain long division, and not the library's.
 ghost use Rattle.std.specs.Prelude.{◌≤◌, ◌<◌, ◌+◌};
 
-use super::answers::number;
-use refusals::{Checked, Value};
+use super::answers::{done, number};
+use refusals::Value;
 use std::array;
 
 // How many words are tried.
@@ -74,6 +74,13 @@ impl<'a> Trial<'a> {
         array::from_fn(|i| self.word(i))
     }
 
+    // Whether a call answers of a word what it answers of the remainder.
+    fn is_as_remainder<F: Fn(u64) -> Value>(&self, word: u64, call: F) -> bool
+        requires { F.IsAlwaysCallable call }
+    {
+        agree(call(word), call(self.remainder(word)))
+    }
+
     // Whether the product with another word is the product of the remainders.
     pub(crate) fn product_holds(&self, word: u64, other: u64) -> bool {
         agree(
@@ -82,28 +89,16 @@ impl<'a> Trial<'a> {
         )
     }
 
-    // Whether the square is that of the remainder.
     pub(crate) fn square_holds(&self, word: u64) -> bool {
-        agree(
-            field::square(self.f, word),
-            field::square(self.f, self.remainder(word)),
-        )
+        self.is_as_remainder(word, |word| field::square(self.f, word))
     }
 
-    // Whether the trace is that of the remainder.
     pub(crate) fn trace_holds(&self, word: u64) -> bool {
-        agree(
-            field::trace(self.f, word),
-            field::trace(self.f, self.remainder(word)),
-        )
+        self.is_as_remainder(word, |word| field::trace(self.f, word))
     }
 
-    // Whether the coordinates are those of the remainder.
     pub(crate) fn coordinates_hold(&self, word: u64) -> bool {
-        agree(
-            sheet::to_normal(self.sheet, word),
-            sheet::to_normal(self.sheet, self.remainder(word)),
-        )
+        self.is_as_remainder(word, |word| sheet::to_normal(self.sheet, word))
     }
 
     // Whether the element that the word's coordinates stand for is the remainder.
@@ -137,13 +132,12 @@ impl<'a> Trial<'a> {
         let words = self.words();
         let from = &words[..LENGTH];
         let mut into = [0u64; LENGTH];
-        match sheet::list_to_normal(self.sheet, from, &mut into) {
-            Checked::Refused(_) => 0,
-            Checked::Done => from
-                .iter()
-                .zip(&into)
-                .filter(|(word, listed)| gives(sheet::to_normal(self.sheet, **word), **listed))
-                .count(),
+        if done(sheet::list_to_normal(self.sheet, from, &mut into)).is_err() {
+            return 0;
         }
+        from.iter()
+            .zip(&into)
+            .filter(|(word, listed)| gives(sheet::to_normal(self.sheet, **word), **listed))
+            .count()
     }
 }

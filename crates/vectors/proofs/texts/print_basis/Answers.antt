@@ -1,4 +1,4 @@
--- `vectors::texts::print_basis` meets its contract: the sheet and the text of a smaller degree are the first bytes of the buffers. Assumes nothing.
+-- `vectors::texts::print_basis` meets its contract: the text of a smaller degree is the first bytes of its buffer. Assumes nothing.
 use mathlib.Core.Path.{sym}
 use Prim.Native.Nat.{◌≤◌}
 use native.Mathlib.Omega.{arith}
@@ -8,9 +8,6 @@ use Rattle.matrices.specs.Blocks.{text_size-most}
 use Rattle.vectors.proofs.texts.print_basis.Goals.{After-text_size-size}
 use Rattle.vectors.proofs.texts.print_basis.Given.{Over}
 use Rattle.vectors.proofs.texts.print_basis.Goals as goal
-
-pub slice_bounds-write_matrices-end : goal.slice_bounds-write_matrices-end
-slice_bounds-write_matrices-end g c = sym (length-take-le _ _ (omega arith))
 
 -- the text of the last degree is the longest
 fits : (g : Over) (c : After-text_size-size g) → c.text_size-size.result ≤ 399
