@@ -11,6 +11,7 @@ use gf2::{greatest_common, multiply};
 pub struct Part {
     pub value: u64,
     pub degree: u32,
+    ghost level: { Level degree value },
 }
 
 // The greatest common divisor of f, of degree n, and x^(2^i) + x, for the first i at which it is not 1. If it is 1 up to n/2, f is
@@ -19,7 +20,7 @@ pub struct Part {
 // takes no longer than a spread, and needs no table.
 pub fn lowest_part(f: u64, n: u32) -> Part
     requires { (1 ≤ n) × Degree f n }
-    ensures { Level result.degree result.value × (smallest_divisor result.value ≡ smallest_divisor f) }
+    ensures { smallest_divisor result.value ≡ smallest_divisor f }
 {
     let mut y: u64 = 2;
     for i in 1..=n / 2 {

@@ -2,21 +2,22 @@
 ghost use Rattle.std.specs.Prelude.{◌≡◌, ◌≤◌};
 ghost use Rattle.gf2.specs.Poly.{Degree};
 ghost use Rattle.divisors.specs.Smallest.{smallest_divisor};
-ghost use Rattle.divisors.specs.Level.{Level};
 
-use super::lowest::lowest_part;
+use super::lowest::{Part, lowest_part};
 use super::quotient::quotient;
 use super::splitting::irreducible_divisor;
 
-// The smallest divisor of g, all of whose irreducible divisors have degree i. They are found in no order of size, so all are taken off.
-fn smallest_of_level(g: u64, i: u32) -> u64
-    requires { Level i g }
-    ensures { result ≡ smallest_divisor g }
+// The smallest divisor of a part. Its irreducible divisors are found in no order of size, so all are taken off.
+fn smallest_of_level(part: Part) -> u64
+    ensures { result ≡ smallest_divisor part.value }
 {
-    let mut best = g;
-    let mut rest = g;
+    let mut best = part.value;
+    let mut rest = part.value;
     while rest != 1 {
-        let p = irreducible_divisor(rest, i);
+        let p = irreducible_divisor(Part {
+            value: rest,
+            degree: part.degree,
+        });
         best = best.min(p);
         rest = quotient(rest, p);
     }
@@ -28,6 +29,5 @@ pub fn smallest_divisor(f: u64, n: u32) -> u64
     requires { (1 ≤ n) × Degree f n }
     ensures { result ≡ smallest_divisor f }
 {
-    let part = lowest_part(f, n);
-    smallest_of_level(part.value, part.degree)
+    smallest_of_level(lowest_part(f, n))
 }

@@ -1,5 +1,5 @@
 -- `divisors::lowest::lowest_part` meets its contract: the goals that the check leaves. Its loop is told in `Invariants.antt`. Assumes nothing.
-use mathlib.Core.Path.{◌≡◌, refl}
+use mathlib.Core.Path.{◌≡◌}
 use Prim.Native.Nat.{ℕ, ◌+◌, ◌-◌, ◌/◌, ◌^◌, ◌<◌}
 use native.Mathlib.Omega.{arith}
 use lib.Bits.{bit_xor}
@@ -13,6 +13,7 @@ use Rattle.field.specs.CommonDivisors.{NoneTo, none-to-zero, none-to-next}
 use Rattle.divisors.specs.Smallest.{smallest_divisor}
 use Rattle.divisors.specs.Level.{Level}
 use Rattle.divisors.specs.Lowest.{lowest_found, lowest_none}
+use Rattle.divisors.proofs.lowest.lowest_part.Goals.{else-loop-i-test, then-loop-i-test+else-g-ne1+else-i-i-end}
 use Rattle.divisors.proofs.lowest.lowest_part.Goals as goal
 
 module _ (f n : ℕ) (deg : Degree f n) (i y : ℕ) (test : i < n / 2) (ey : y ≡ squared f n i 2) where
@@ -49,12 +50,17 @@ multiply-y-requires c =
 pub greatest_common-g-requires : goal.greatest_common-g-requires
 greatest_common-g-requires c = f-pos c.args.f c.args.n c.requires.1
 
+pub invariant_of-result : goal.invariant_of-result
+invariant_of-result c =
+    let turn : c.loop-i.i ≡ c.loop-i.i - 1 + 1 = omega arith in
+    let part = found c.args.f c.args.n c.requires.1 (c.loop-i.i - 1) c.loop-i.y (omega arith) c.loop-i.invariant.0
+    c.multiply-y.result c.greatest_common-g.result c.multiply-y.ensures c.greatest_common-g.ensures c.loop-i.invariant.1 c.if-g-ne1.true in
+    record { level = rw turn part.0 }
+
 pub returns-then-g-ne1 : goal.returns-then-g-ne1
 returns-then-g-ne1 c =
-    let turn : c.loop-i.i ≡ c.loop-i.i - 1 + 1 = omega arith in
-    rw turn
     (found c.args.f c.args.n c.requires.1 (c.loop-i.i - 1) c.loop-i.y (omega arith) c.loop-i.invariant.0
-    c.multiply-y.result c.greatest_common-g.result c.multiply-y.ensures c.greatest_common-g.ensures c.loop-i.invariant.1 c.if-g-ne1.true)
+    c.multiply-y.result c.greatest_common-g.result c.multiply-y.ensures c.greatest_common-g.ensures c.loop-i.invariant.1 c.if-g-ne1.true).1
 
 pub loop-i-preserved : goal.loop-i-preserved
 loop-i-preserved c =
@@ -63,12 +69,15 @@ loop-i-preserved c =
     (again c.args.f c.args.n c.requires.1 (c.loop-i.i - 1) c.loop-i.y (omega arith) c.loop-i.invariant.0
     c.multiply-y.result c.greatest_common-g.result c.multiply-y.ensures c.greatest_common-g.ensures c.loop-i.invariant.1 c.if-g-ne1.false)
 
-pub returns : goal.returns
-returns c =
-    (lowest_none c.args.f c.args.n (c.loop-i.i - 1) c.requires.1 c.requires.0 (omega arith) c.loop-i.invariant.1, refl)
-
-pub returns-else-g-ne1 : goal.returns-else-g-ne1
-returns-else-g-ne1 c =
-    let last = again c.args.f c.args.n c.requires.1 (c.loop-i.i - 1) c.loop-i.y (omega arith) c.loop-i.invariant.0
-    c.multiply-y.result c.greatest_common-g.result c.multiply-y.ensures c.greatest_common-g.ensures c.loop-i.invariant.1 c.if-g-ne1.false in
-    (lowest_none c.args.f c.args.n (c.loop-i.i - 1 + 1) c.requires.1 c.requires.0 (omega arith) last.1, refl)
+pub invariant_of-result-2 : goal.invariant_of-result-2
+invariant_of-result-2 c =
+    record {
+      level =
+          elim c.loop-i-test.branch [
+            | else-loop-i-test w ↦ lowest_none c.args.f c.args.n (c.loop-i.i - 1) c.requires.1 c.requires.0 (omega arith) c.loop-i.invariant.1
+            | then-loop-i-test+else-g-ne1+else-i-i-end w ↦
+                let last = again c.args.f c.args.n c.requires.1 (c.loop-i.i - 1) c.loop-i.y (omega arith) c.loop-i.invariant.0
+                w.multiply-y.result w.greatest_common-g.result w.multiply-y.ensures w.greatest_common-g.ensures c.loop-i.invariant.1 w.if-g-ne1.false in
+                lowest_none c.args.f c.args.n (c.loop-i.i - 1 + 1) c.requires.1 c.requires.0 (omega arith) last.1
+          ];
+    }

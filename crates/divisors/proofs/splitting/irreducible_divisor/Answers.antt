@@ -19,23 +19,26 @@ module _ (i g : ℕ) (s : Level i g) (p : ℕ) (inv : (2 ≤ p) × Divides p g) 
   done : m ≤ i → (2 ≤ p) × Irreducible p × Divides p g
   done l = (inv.0, level_irreducible i p level m deg l, inv.1)
 
-pub loop-p-init : goal.loop-p-init
-loop-p-init c = (c.requires.two, divides_self c.args.g)
+pub loop-part-init : goal.loop-part-init
+loop-part-init c = (c.args.part.level.two, divides_self c.args.part.value)
+
+pub invariant_of-half : goal.invariant_of-half
+invariant_of-half c =
+    record { level = level c.args.part.degree c.args.part.value c.args.part.level c.loop-part.p c.loop-part.invariant c.degree_of.result c.degree_of.ensures }
 
 pub split-p-requires : goal.split-p-requires
 split-p-requires c = (
-  deg c.args.i c.args.g c.requires c.loop-p.p c.loop-p.invariant c.degree_of-in-loop-p.result c.degree_of-in-loop-p.ensures,
-  level c.args.i c.args.g c.requires c.loop-p.p c.loop-p.invariant c.degree_of-in-loop-p.result c.degree_of-in-loop-p.ensures,
-  omega (arith, c.loop-p-test.true, c.degree_of.ensures, c.degree_of-in-loop-p.ensures),
+  deg c.args.part.degree c.args.part.value c.args.part.level c.loop-part.p c.loop-part.invariant c.degree_of-in-loop-part.result c.degree_of-in-loop-part.ensures,
+  omega (arith, c.loop-part-test.true, c.degree_of.ensures, c.degree_of-in-loop-part.ensures),
 )
 
-pub loop-p-smaller : goal.loop-p-smaller
-loop-p-smaller c = c.split-p.ensures.1
+pub loop-part-smaller : goal.loop-part-smaller
+loop-part-smaller c = c.split-p.ensures.1
 
-pub loop-p-preserved : goal.loop-p-preserved
-loop-p-preserved c =
-    (c.split-p.ensures.0, divides_trans c.split-p.result c.loop-p.p c.args.g c.split-p.ensures.2 c.loop-p.invariant.1)
+pub loop-part-preserved : goal.loop-part-preserved
+loop-part-preserved c =
+    (c.split-p.ensures.0, divides_trans c.split-p.result c.loop-part.p c.args.part.value c.split-p.ensures.2 c.loop-part.invariant.1)
 
 pub returns : goal.returns
 returns c =
-    done c.args.i c.args.g c.requires c.loop-p.p c.loop-p.invariant c.degree_of.result c.degree_of.ensures c.loop-p-test.false
+    done c.args.part.degree c.args.part.value c.args.part.level c.loop-part.p c.loop-part.invariant c.degree_of.result c.degree_of.ensures c.loop-part-test.false

@@ -4,8 +4,8 @@ use Prim.Native.Nat.{◌≤◌}
 use Rattle.gf2.specs.Poly.{Divides}
 use Rattle.divisors.proofs.splitting.irreducible_divisor.Given as goal
 
-abbrev pub invariant-loop-p : goal.invariant-loop-p
-invariant-loop-p l = (2 ≤ l.p) × Divides l.p l.g
+abbrev pub invariant-loop-part : goal.invariant-loop-part
+invariant-loop-part l = (2 ≤ l.p) × Divides l.p l.part.value
 
-abbrev pub decreases-loop-p : goal.decreases-loop-p
-decreases-loop-p l = l.p
+abbrev pub decreases-loop-part : goal.decreases-loop-part
+decreases-loop-part l = l.p

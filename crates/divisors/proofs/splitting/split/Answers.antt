@@ -1,6 +1,7 @@
 -- `divisors::splitting::split` meets its contract: the goals that the check leaves. Its loop is told in `Invariants.antt`. Assumes nothing.
 use mathlib.Core.Path.{◌≡◌}
 use mathlib.Core.Logic.{⊎_elim}
+use borrow.Author.Rules.{rules}
 use Prim.Native.Nat.{ℕ, ◌+◌, ◌*◌, ◌^◌, ◌≤◌, ◌<◌}
 use native.Mathlib.Omega.{arith}
 use lib.Pow.{pow-lt}
@@ -47,10 +48,10 @@ module _ (g m i : ℕ) (pre : Degree g m × Level i g × (i < m)) where
         (r.0, r.1, c.left)
 
 m-lt : (s : Start) → s.args.m < 64
-m-lt s = degree-lt s.args.g s.args.m 64 s.requires.0 s.ranges.g.fits
+m-lt s = degree-lt s.args.part.value s.args.m 64 s.requires.0 (search rules)
 
 pub loop-j-init : goal.loop-j-init
-loop-j-init c = start c.args.g c.args.m c.args.i c.requires
+loop-j-init c = start c.args.part.value c.args.m c.args.part.degree (c.requires.0, c.args.part.level, c.requires.1)
 
 pub overflow_mul-j : goal.overflow_mul-j
 overflow_mul-j c = omega (arith, c.loop-j.invariant.0, m-lt (goal.at.overflow_mul-j c).Start)
@@ -68,15 +69,15 @@ first_conjugates_sum-t-requires c =
 
 pub greatest_common-requires : goal.greatest_common-requires
 greatest_common-requires c =
-    let two = c.requires.1.two in
+    let two = c.args.part.level.two in
     omega arith
 
 pub returns-then-splits : goal.returns-then-splits
 returns-then-splits c =
-    found c.args.g c.args.m c.args.i c.requires c.loop-j.j c.power.result c.first_conjugates_sum-t.result c.loop-j.invariant c.power.ensures c.first_conjugates_sum-t.ensures
+    found c.args.part.value c.args.m c.args.part.degree (c.requires.0, c.args.part.level, c.requires.1) c.loop-j.j c.power.result c.first_conjugates_sum-t.result c.loop-j.invariant c.power.ensures c.first_conjugates_sum-t.ensures
     c.greatest_common.result (omega (arith, c.if-splits.true)) c.greatest_common.ensures
 
 pub loop-j-preserved : goal.loop-j-preserved
 loop-j-preserved c =
-    again c.args.g c.args.m c.args.i c.requires c.loop-j.j c.power.result c.first_conjugates_sum-t.result c.loop-j.invariant c.power.ensures c.first_conjugates_sum-t.ensures
+    again c.args.part.value c.args.m c.args.part.degree (c.requires.0, c.args.part.level, c.requires.1) c.loop-j.j c.power.result c.first_conjugates_sum-t.result c.loop-j.invariant c.power.ensures c.first_conjugates_sum-t.ensures
     (omega (arith, c.if-splits.false))

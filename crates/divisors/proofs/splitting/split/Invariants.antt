@@ -5,4 +5,4 @@ use Rattle.divisors.specs.Splitting.{BitsTo}
 use Rattle.divisors.proofs.splitting.split.Given as goal
 
 abbrev pub invariant-loop-j : goal.invariant-loop-j
-invariant-loop-j l = (2 * l.j + 1 < l.m) × BitsTo l.g l.m l.i (2 * l.j + 1)
+invariant-loop-j l = (2 * l.j + 1 < l.m) × BitsTo l.part.value l.m l.part.degree (2 * l.j + 1)
