@@ -3,12 +3,10 @@ ghost use Rattle.std.specs.Prelude.{◌≡◌, [], ◌∷◌, ◌^◌, ◌<◌};
 ghost use Rattle.refusals.specs.Verdicts.{first_of};
 ghost use Rattle.refusals.specs.Answers.{checked_of, value_report};
 ghost use Rattle.sheet.specs.Record.{record_count};
-ghost use Rattle.sheet.specs.Orders.{Shaped, zero_rule, quotient_order};
+ghost use Rattle.sheet.specs.Orders.{zero_rule, quotient_order};
 ghost use Rattle.sheet.specs.Answers.{inverse_through, inverse_answer, inverse_report, quotient_through, quotient_answer, quotient_report};
 
-use super::converting::values_verdict;
-use super::layout::RECORD;
-use super::loading::load_sums;
+use super::shaped::Sheet;
 use normal::{inverse_of, product_by_bytes};
 use refusals::{Checked, Value, refused};
 use rows::BYTE_SUMS;
@@ -23,49 +21,72 @@ fn zero_verdict(value: u64) -> Checked
     Checked::Done
 }
 
-// The shape, then 4 for either number, then 13 for the divisor.
-fn division_verdict(sheet: &[u8], dividend: u64, divisor: u64) -> Checked
-    ensures { result ≡ checked_of (first_of (quotient_order sheet.now dividend divisor)) }
-{
-    let verdict = values_verdict(sheet, dividend, divisor);
-    match verdict {
-        Checked::Refused(refusal) => Checked::Refused(refusal),
-        Checked::Done => zero_verdict(divisor),
+impl<'a> Sheet<'a> {
+    // The shape, which is good, then 4 for either number, then 13 for the divisor.
+    fn division_verdict(&self, dividend: u64, divisor: u64) -> Checked
+        ensures { result ≡ checked_of (first_of (quotient_order self.now.bytes.now dividend divisor)) }
+    {
+        let verdict = self.values_verdict(dividend, divisor);
+        match verdict {
+            Checked::Refused(refusal) => Checked::Refused(refusal),
+            Checked::Done => zero_verdict(divisor),
+        }
+    }
+
+    // The inverse through the table.
+    fn inverted(&self, a: u64) -> u64
+        requires { a < 2 ^ record_count self.now.bytes.now }
+        ensures { result ≡ inverse_through self.now.bytes.now a }
+    {
+        let mut sums: [u64; BYTE_SUMS] = [0; BYTE_SUMS];
+        self.load_sums(&mut sums);
+        inverse_of(&sums, self.degree(), a)
+    }
+
+    // The inverse of normal coordinates a. It is judged as a divided by itself.
+    fn inverse(&self, a: u64) -> Value
+        ensures { result ≡ inverse_answer self.now.bytes.now a }
+    {
+        let verdict = self.division_verdict(a, a);
+        match verdict {
+            Checked::Refused(refusal) => Value::Refused(refusal),
+            Checked::Done => Value::Done(self.inverted(a)),
+        }
+    }
+
+    // The quotient through the table: the dividend stands before the inverse.
+    fn divided(&self, dividend: u64, divisor: u64) -> u64
+        requires { (dividend < 2 ^ record_count self.now.bytes.now) × (divisor < 2 ^ record_count self.now.bytes.now) }
+        ensures { result ≡ quotient_through self.now.bytes.now dividend divisor }
+    {
+        let mut sums: [u64; BYTE_SUMS] = [0; BYTE_SUMS];
+        self.load_sums(&mut sums);
+        let n = self.degree();
+        let inverse = inverse_of(&sums, n, divisor);
+        product_by_bytes(&sums, n, dividend, inverse)
+    }
+
+    // The quotient of normal coordinates.
+    fn quotient(&self, dividend: u64, divisor: u64) -> Value
+        ensures { result ≡ quotient_answer self.now.bytes.now dividend divisor }
+    {
+        let verdict = self.division_verdict(dividend, divisor);
+        match verdict {
+            Checked::Refused(refusal) => Value::Refused(refusal),
+            Checked::Done => Value::Done(self.divided(dividend, divisor)),
+        }
     }
 }
 
-// The inverse through the table.
-fn inverted(sheet: &[u8], a: u64) -> u64
-    requires { Shaped sheet.now × (a < 2 ^ record_count sheet.now) }
-    ensures { result ≡ inverse_through sheet.now a }
-{
-    let mut sums: [u64; BYTE_SUMS] = [0; BYTE_SUMS];
-    load_sums(sheet, &mut sums);
-    inverse_of(&sums, (sheet.len() / RECORD) as u32, a)
-}
-
-// The inverse of normal coordinates a. It is judged as a divided by itself.
+// The inverse of normal coordinates a.
 pub fn inverse(sheet: &[u8], a: u64) -> Value
     ensures answer { result ≡ inverse_answer sheet.now a }
     ensures report { value_report result ≡ inverse_report sheet.now a }
 {
-    let verdict = division_verdict(sheet, a, a);
-    match verdict {
-        Checked::Refused(refusal) => Value::Refused(refusal),
-        Checked::Done => Value::Done(inverted(sheet, a)),
+    match Sheet::judged(sheet) {
+        Ok(judged) => judged.inverse(a),
+        Err(refusal) => Value::Refused(refusal),
     }
-}
-
-// The quotient through the table: the dividend stands before the inverse.
-fn divided(sheet: &[u8], dividend: u64, divisor: u64) -> u64
-    requires { Shaped sheet.now × (dividend < 2 ^ record_count sheet.now) × (divisor < 2 ^ record_count sheet.now) }
-    ensures { result ≡ quotient_through sheet.now dividend divisor }
-{
-    let n = (sheet.len() / RECORD) as u32;
-    let mut sums: [u64; BYTE_SUMS] = [0; BYTE_SUMS];
-    load_sums(sheet, &mut sums);
-    let inverse = inverse_of(&sums, n, divisor);
-    product_by_bytes(&sums, n, dividend, inverse)
 }
 
 // The quotient of normal coordinates.
@@ -73,9 +94,8 @@ pub fn quotient(sheet: &[u8], dividend: u64, divisor: u64) -> Value
     ensures answer { result ≡ quotient_answer sheet.now dividend divisor }
     ensures report { value_report result ≡ quotient_report sheet.now dividend divisor }
 {
-    let verdict = division_verdict(sheet, dividend, divisor);
-    match verdict {
-        Checked::Refused(refusal) => Value::Refused(refusal),
-        Checked::Done => Value::Done(divided(sheet, dividend, divisor)),
+    match Sheet::judged(sheet) {
+        Ok(judged) => judged.quotient(dividend, divisor),
+        Err(refusal) => Value::Refused(refusal),
     }
 }

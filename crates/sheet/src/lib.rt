@@ -12,6 +12,7 @@ mod loading;
 mod reading;
 mod record;
 mod shape;
+mod shaped;
 mod unreduced;
 
 pub use answer::{Issued, Summary};

@@ -7,14 +7,13 @@ ghost use Rattle.rows.specs.Rows.{comb};
 ghost use Rattle.field.specs.Accepted.{InRange};
 ghost use Rattle.field.specs.Refusals.{too_large_lem};
 ghost use Rattle.sheet.specs.Record.{record_count};
-ghost use Rattle.sheet.specs.Orders.{Shaped, Small, list_rule, value_rules, list_order, polynomial_list_order};
+ghost use Rattle.sheet.specs.Orders.{Small, list_rule, value_rules, list_order, polynomial_list_order};
 ghost use Rattle.sheet.specs.Answers.{to_polynomial, to_normal, polynomial_list_answer, polynomial_list_report, polynomial_list, normal_list_answer, normal_list_report, normal_list};
 ghost use Rattle.sheet.specs.Unreduced.{in_normal};
 
 use super::in_place::convert_each;
-use super::layout::{CONJUGATE_AT, INVERSE_AT, RECORD};
-use super::loading::{load_rows, polynomial_of};
-use super::shape::shape_verdict;
+use super::layout::{CONJUGATE_AT, INVERSE_AT};
+use super::shaped::Sheet;
 use super::unreduced::{convert_words, reduce_all};
 use field::too_large;
 use gf2::LIMIT;
@@ -79,31 +78,6 @@ fn convert_unreduced(rows: [u64; LIMIT], f: u64, n: u32, list: &mut [u64])
     }
 }
 
-// The list `from` of normal coordinates, converted into the list `into`.
-fn fill_polynomials(sheet: &[u8], from: &[u64], into: &mut [u64])
-    requires { Shaped sheet.now × (length from.now ≡ length into.old) × Small (record_count sheet.now) from.now }
-    ensures { into.new ≡ map (to_polynomial sheet.now) from.now }
-{
-    let rows = load_rows(sheet, CONJUGATE_AT);
-    into.copy_from_slice(from);
-    convert_values(rows, into);
-}
-
-// The list `from` of words, converted into the list `into`.
-fn fill_coordinates(sheet: &[u8], from: &[u64], into: &mut [u64])
-    requires { Shaped sheet.now × (length from.now ≡ length into.old) }
-    ensures { into.new ≡ map (to_normal sheet.now) from.now }
-{
-    let rows = load_rows(sheet, INVERSE_AT);
-    into.copy_from_slice(from);
-    convert_unreduced(
-        rows,
-        polynomial_of(sheet),
-        (sheet.len() / RECORD) as u32,
-        into,
-    );
-}
-
 // 11.
 fn lengths_verdict(values: usize, room: usize) -> Checked
     ensures { result ≡ checked_of (first_of (list_rule values room ∷ [])) }
@@ -117,17 +91,6 @@ fn lengths_verdict(values: usize, room: usize) -> Checked
     Checked::Done
 }
 
-// The shape, then 11.
-fn list_verdict(sheet: &[u8], values: usize, room: usize) -> Checked
-    ensures { result ≡ checked_of (first_of (list_order sheet.now values room)) }
-{
-    let shape = shape_verdict(sheet);
-    match shape {
-        Checked::Refused(refusal) => Checked::Refused(refusal),
-        Checked::Done => lengths_verdict(values, room),
-    }
-}
-
 // 4 with the index of the first value that is too large.
 fn coordinates_verdict(n: u32, values: &[u64]) -> Checked
     requires { n < 64 }
@@ -139,14 +102,73 @@ fn coordinates_verdict(n: u32, values: &[u64]) -> Checked
     }
 }
 
-// The shape, then 11 and 4.
-fn polynomial_list_verdict(sheet: &[u8], from: &[u64], room: usize) -> Checked
-    ensures { result ≡ checked_of (first_of (polynomial_list_order sheet.now from.now room)) }
-{
-    let list = list_verdict(sheet, from.len(), room);
-    match list {
-        Checked::Refused(refusal) => Checked::Refused(refusal),
-        Checked::Done => coordinates_verdict((sheet.len() / RECORD) as u32, from),
+impl<'a> Sheet<'a> {
+    // The list `from` of normal coordinates, converted into the list `into`.
+    fn fill_polynomials(&self, from: &[u64], into: &mut [u64])
+        requires { (length from.now ≡ length into.old) × Small (record_count self.now.bytes.now) from.now }
+        ensures { into.new ≡ map (to_polynomial self.now.bytes.now) from.now }
+    {
+        let rows = self.rows(CONJUGATE_AT);
+        into.copy_from_slice(from);
+        convert_values(rows, into);
+    }
+
+    // The list `from` of words, converted into the list `into`.
+    fn fill_coordinates(&self, from: &[u64], into: &mut [u64])
+        requires { length from.now ≡ length into.old }
+        ensures { into.new ≡ map (to_normal self.now.bytes.now) from.now }
+    {
+        let rows = self.rows(INVERSE_AT);
+        into.copy_from_slice(from);
+        convert_unreduced(rows, self.polynomial(), self.degree(), into);
+    }
+
+    // The shape, which is good, then 11.
+    fn list_verdict(&self, values: usize, room: usize) -> Checked
+        ensures { result ≡ checked_of (first_of (list_order self.now.bytes.now values room)) }
+    {
+        lengths_verdict(values, room)
+    }
+
+    // The shape, which is good, then 11 and 4.
+    fn polynomial_list_verdict(&self, from: &[u64], room: usize) -> Checked
+        ensures { result ≡ checked_of (first_of (polynomial_list_order self.now.bytes.now from.now room)) }
+    {
+        let list = self.list_verdict(from.len(), room);
+        match list {
+            Checked::Refused(refusal) => Checked::Refused(refusal),
+            Checked::Done => coordinates_verdict(self.degree(), from),
+        }
+    }
+
+    // The elements that a list of normal coordinates stands for.
+    fn list_to_polynomial(&self, from: &[u64], into: &mut [u64]) -> Checked
+        ensures answer { result ≡ polynomial_list_answer self.now.bytes.now from.now (length into.old) }
+        ensures written { into.new ≡ polynomial_list self.now.bytes.now from.now into.old }
+    {
+        let verdict = self.polynomial_list_verdict(from, into.len());
+        match verdict {
+            Checked::Refused(refusal) => Checked::Refused(refusal),
+            Checked::Done => {
+                self.fill_polynomials(from, into);
+                Checked::Done
+            }
+        }
+    }
+
+    // The normal coordinates of a list of elements, which may arrive unreduced.
+    fn list_to_normal(&self, from: &[u64], into: &mut [u64]) -> Checked
+        ensures answer { result ≡ normal_list_answer self.now.bytes.now from.now (length into.old) }
+        ensures written { into.new ≡ normal_list self.now.bytes.now from.now into.old }
+    {
+        let verdict = self.list_verdict(from.len(), into.len());
+        match verdict {
+            Checked::Refused(refusal) => Checked::Refused(refusal),
+            Checked::Done => {
+                self.fill_coordinates(from, into);
+                Checked::Done
+            }
+        }
     }
 }
 
@@ -156,13 +178,9 @@ pub fn list_to_polynomial(sheet: &[u8], from: &[u64], into: &mut [u64]) -> Check
     ensures report { checked_report result ≡ polynomial_list_report sheet.now from.now (length into.old) }
     ensures written { into.new ≡ polynomial_list sheet.now from.now into.old }
 {
-    let verdict = polynomial_list_verdict(sheet, from, into.len());
-    match verdict {
-        Checked::Refused(refusal) => Checked::Refused(refusal),
-        Checked::Done => {
-            fill_polynomials(sheet, from, into);
-            Checked::Done
-        }
+    match Sheet::judged(sheet) {
+        Ok(judged) => judged.list_to_polynomial(from, into),
+        Err(refusal) => Checked::Refused(refusal),
     }
 }
 
@@ -172,12 +190,8 @@ pub fn list_to_normal(sheet: &[u8], from: &[u64], into: &mut [u64]) -> Checked
     ensures report { checked_report result ≡ normal_list_report sheet.now from.now (length into.old) }
     ensures written { into.new ≡ normal_list sheet.now from.now into.old }
 {
-    let verdict = list_verdict(sheet, from.len(), into.len());
-    match verdict {
-        Checked::Refused(refusal) => Checked::Refused(refusal),
-        Checked::Done => {
-            fill_coordinates(sheet, from, into);
-            Checked::Done
-        }
+    match Sheet::judged(sheet) {
+        Ok(judged) => judged.list_to_normal(from, into),
+        Err(refusal) => Checked::Refused(refusal),
     }
 }

@@ -1,13 +1,12 @@
-// What a sheet holds, as it stands: its polynomial, one record's rows, one column's rows, and the byte sums of its table.
-ghost use Rattle.std.specs.Prelude.{◌≡◌, ◌+◌, ◌*◌, ◌≤◌, length, replicate};
-ghost use Rattle.rows.specs.ByteSums.{bytes, byte_sums};
+// What other crates read of a sheet's bytes, as they stand: its polynomial, one record's rows, one column's rows.
+ghost use Rattle.std.specs.Prelude.{◌≡◌, ◌+◌, ◌*◌, ◌≤◌, length};
 ghost use Rattle.normal.specs.Normal.{padded};
-ghost use Rattle.sheet.specs.Record.{record_size, word_size, polynomial_in, conjugate_in, inverse_in, table_in, rows_in, table_rows_in};
+ghost use Rattle.sheet.specs.Record.{record_size, word_size, polynomial_in, conjugate_in, inverse_in, table_in, rows_in};
 ghost use Rattle.sheet.specs.Orders.{Shaped};
 
-use super::layout::{CONJUGATE_AT, INVERSE_AT, RECORD, TABLE_AT, TAIL, TAIL_AT, WORD, number_at};
+use super::layout::{CONJUGATE_AT, INVERSE_AT, RECORD, TABLE_AT, WORD, number_at};
+use super::shaped::Sheet;
 use gf2::LIMIT;
-use rows::{BYTE_SUMS, degree_sums};
 
 // Row i of each of the three matrices.
 #[derive(Clone, Copy)]
@@ -35,8 +34,7 @@ pub fn polynomial_of(sheet: &[u8]) -> u64
     requires { Shaped sheet.now }
     ensures { result ≡ polynomial_in sheet.now }
 {
-    let n = (sheet.len() / RECORD) as u32;
-    (1u64 << n) + number_at(sheet, TAIL_AT, TAIL)
+    Sheet { bytes: sheet }.polynomial()
 }
 
 // The rows of the column at a place.
@@ -44,19 +42,5 @@ pub fn load_rows(sheet: &[u8], at: usize) -> [u64; LIMIT]
     requires { Shaped sheet.now × (at + word_size ≤ record_size) }
     ensures { result ≡ padded (rows_in sheet.now at) }
 {
-    let mut rows: [u64; LIMIT] = [0; LIMIT];
-    let n = sheet.len() / RECORD;
-    for i in 0..n {
-        rows[i] = number_at(sheet, RECORD * i + at, WORD);
-    }
-    rows
-}
-
-// The byte sums of the table's rows, in an array of zeros.
-pub fn load_sums(sheet: &[u8], sums: &mut [u64; BYTE_SUMS])
-    requires { Shaped sheet.now × (sums.old ≡ replicate (256 * bytes) 0) }
-    ensures { sums.new ≡ byte_sums bytes (padded (table_rows_in sheet.now)) }
-{
-    let rows = load_rows(sheet, TABLE_AT);
-    degree_sums(rows, sheet.len() / RECORD, sums);
+    Sheet { bytes: sheet }.rows(at)
 }

@@ -5,15 +5,14 @@ ghost use Rattle.gf2.specs.Spread.{SpreadTable};
 ghost use Rattle.refusals.specs.Verdicts.{first_of};
 ghost use Rattle.normal.specs.Basis.{basis_rows};
 ghost use Rattle.sheet.specs.Record.{record_size};
-ghost use Rattle.sheet.specs.Orders.{Shaped, normal_rule, differ_rules, rebuilt_from, rebuild_order};
+ghost use Rattle.sheet.specs.Orders.{normal_rule, differ_rules, rebuilt_from, rebuild_order};
 ghost use Rattle.sheet.specs.Answers.{summary_in, issued_of, issued_report, read_answer, read_report};
 ghost use Rattle.sheet.specs.Reading.{Rebuilt, differs, first_differing};
 
 use super::answer::Issued;
 use super::building::put_basis;
 use super::layout::{CONJUGATE_AT, RECORD, WORD, number_at};
-use super::loading::polynomial_of;
-use super::shape::shape_verdict;
+use super::shaped::Sheet;
 use field::field_verdict;
 use gf2::{LIMIT, spread_table};
 use normal::{Basis, build_basis};
@@ -71,19 +70,20 @@ fn rebuilt_basis(spread: &[u16; 256], sheet: &[u8], f: u64, n: u32, element: u64
     compared(sheet, f, n, element, basis)
 }
 
-// A sheet of good shape, rebuilt from its polynomial and its record 0 conjugate, and compared: 2, 3, 5, 10.
-fn rebuild(sheet: &[u8]) -> Issued
-    requires { Shaped sheet.now }
-    ensures { result ≡ issued_of (first_of (rebuild_order sheet.now)) (summary_in sheet.now) }
-{
-    let n = (sheet.len() / RECORD) as u32;
-    let f = polynomial_of(sheet);
-    let element = number_at(sheet, CONJUGATE_AT, WORD);
-    let spread = spread_table();
-    let field = field_verdict(&spread, f, n);
-    match field {
-        Checked::Refused(refusal) => Issued::Refused(refusal),
-        Checked::Done => rebuilt_basis(&spread, sheet, f, n, element),
+impl<'a> Sheet<'a> {
+    // The sheet, rebuilt from its polynomial and its record 0 conjugate, and compared: 2, 3, 5, 10.
+    fn rebuilt(&self) -> Issued
+        ensures { result ≡ issued_of (first_of (rebuild_order self.now.bytes.now)) (summary_in self.now.bytes.now) }
+    {
+        let n = self.degree();
+        let f = self.polynomial();
+        let element = number_at(self.bytes, CONJUGATE_AT, WORD);
+        let spread = spread_table();
+        let field = field_verdict(&spread, f, n);
+        match field {
+            Checked::Refused(refusal) => Issued::Refused(refusal),
+            Checked::Done => rebuilt_basis(&spread, self.bytes, f, n, element),
+        }
     }
 }
 
@@ -92,9 +92,8 @@ pub fn read(sheet: &[u8]) -> Issued
     ensures answer { result ≡ read_answer sheet.now }
     ensures report { issued_report result ≡ read_report sheet.now }
 {
-    let shape = shape_verdict(sheet);
-    match shape {
-        Checked::Refused(refusal) => Issued::Refused(refusal),
-        Checked::Done => rebuild(sheet),
+    match Sheet::judged(sheet) {
+        Ok(judged) => judged.rebuilt(),
+        Err(refusal) => Issued::Refused(refusal),
     }
 }

@@ -1,35 +1,23 @@
--- `sheet::dividing::inverse` meets its contract: it judges, and then works.
+-- `sheet::dividing::inverse` meets its contract: the shape is judged, and then what the sheet answers is the answer.
 -- Assumes nothing.
-use mathlib.Core.Path.{◌≡◌, ap, ◌∙◌}
-use mathlib.Core.List.{List}
-use Prim.Native.Nat.{ℕ}
+use Rattle.std.proofs.Common.{List, [], ◌∷◌, ℕ, ap, ◌∙◌}
 use Rattle.refusals.specs.Verdicts.{first_of}
-use Rattle.refusals.specs.Answers.{checked_of}
-use Rattle.refusals.specs.Answered.{judged_clear, judged_refused, judged_done, value-promised}
-use Rattle.refusals.specs.declared.answer.Checked.{Checked}
+use Rattle.refusals.specs.Orders.{part-refused}
+use Rattle.refusals.specs.Answered.{answer-refused, value-promised}
 use Rattle.refusals.specs.declared.answer.Value.TheVariants as value
-use Rattle.sheet.specs.Orders.{inverse_order, quotient_order}
+use Rattle.field.specs.Refusals.{element_order}
+use Rattle.sheet.specs.Record.{record_count}
+use Rattle.sheet.specs.Orders.{shape_order, value_order, zero_rule, inverse_order}
 use Rattle.sheet.specs.Answers.{inverse_answer, inverse_report}
-use Rattle.sheet.proofs.DividingLaws.{inverse_twice, division_judged}
 use Rattle.sheet.proofs.dividing.inverse.Goals as goal
 
--- the number is judged as divided by itself
-judged : (sheet : List ℕ) (a : ℕ) {r : Checked} → r ≡ checked_of (first_of (quotient_order sheet a a)) → r ≡ checked_of (first_of (inverse_order sheet a))
-judged sheet a e = e ∙ ap checked_of (inverse_twice sheet a)
-
-pub inverted-requires : goal.inverted-requires
-inverted-requires c =
-    let j = division_judged c.args.sheet.now c.args.a c.args.a (judged_clear (first_of (quotient_order c.args.sheet.now c.args.a c.args.a)) c.division_verdict-verdict.ensures c.in-Done.is) in
-    (j.0, j.1)
-
-pub returns-in-Refused : goal.returns-in-Refused
+pub returns-in-Ok : goal.returns-in-Ok
 unfolding inverse_answer inverse_report
-returns-in-Refused c =
-    let whole = value-promised (first_of (inverse_order c.args.sheet.now c.args.a)) _
-    (judged_refused value.Refused _ _ (judged c.args.sheet.now c.args.a c.division_verdict-verdict.ensures) c.in-Refused.is) in record { answer = whole.0; report = whole.1 }
+returns-in-Ok c =
+    let whole = value-promised (first_of (inverse_order c.args.sheet.now c.args.a)) _ (c.inverse.ensures ∙ ap (λ (s : List ℕ). inverse_answer s c.args.a) c.in-Ok.ensures) in record { answer = whole.0; report = whole.1 }
 
-pub returns-in-Done : goal.returns-in-Done
+pub returns-in-Err : goal.returns-in-Err
 unfolding inverse_answer inverse_report
-returns-in-Done c =
+returns-in-Err c =
     let whole = value-promised (first_of (inverse_order c.args.sheet.now c.args.a)) _
-    (ap value.Done c.inverted.ensures ∙ judged_done value.Refused _ _ (judged c.args.sheet.now c.args.a c.division_verdict-verdict.ensures) c.in-Done.is) in record { answer = whole.0; report = whole.1 }
+    (answer-refused value.Refused _ (part-refused (value_order c.args.sheet.now (c.args.a ∷ [])) (zero_rule c.args.a ∷ []) c.in-Err.refusal.number c.in-Err.refusal.place (part-refused (shape_order c.args.sheet.now) (element_order (record_count c.args.sheet.now) (c.args.a ∷ [])) c.in-Err.refusal.number c.in-Err.refusal.place c.in-Err.ensures))) in record { answer = whole.0; report = whole.1 }

@@ -1,27 +1,23 @@
--- `sheet::dividing::quotient` meets its contract: it judges, and then works.
+-- `sheet::dividing::quotient` meets its contract: the shape is judged, and then what the sheet answers is the answer.
 -- Assumes nothing.
-use mathlib.Core.Path.{ap, ◌∙◌}
+use Rattle.std.proofs.Common.{List, [], ◌∷◌, ℕ, ap, ◌∙◌}
 use Rattle.refusals.specs.Verdicts.{first_of}
-use Rattle.refusals.specs.Answered.{judged_clear, judged_refused, judged_done, value-promised}
+use Rattle.refusals.specs.Orders.{part-refused}
+use Rattle.refusals.specs.Answered.{answer-refused, value-promised}
 use Rattle.refusals.specs.declared.answer.Value.TheVariants as value
-use Rattle.sheet.specs.Orders.{quotient_order}
+use Rattle.field.specs.Refusals.{element_order}
+use Rattle.sheet.specs.Record.{record_count}
+use Rattle.sheet.specs.Orders.{shape_order, value_order, zero_rule, quotient_order}
 use Rattle.sheet.specs.Answers.{quotient_answer, quotient_report}
-use Rattle.sheet.proofs.DividingLaws.{division_judged}
 use Rattle.sheet.proofs.dividing.quotient.Goals as goal
 
-pub divided-requires : goal.divided-requires
-divided-requires c =
-    let j = division_judged c.args.sheet.now c.args.dividend c.args.divisor (judged_clear (first_of (quotient_order c.args.sheet.now c.args.dividend c.args.divisor)) c.division_verdict-verdict.ensures c.in-Done.is) in
-    (j.0, j.1, j.2)
-
-pub returns-in-Refused : goal.returns-in-Refused
+pub returns-in-Ok : goal.returns-in-Ok
 unfolding quotient_answer quotient_report
-returns-in-Refused c =
-    let whole = value-promised (first_of (quotient_order c.args.sheet.now c.args.dividend c.args.divisor)) _
-    (judged_refused value.Refused _ _ c.division_verdict-verdict.ensures c.in-Refused.is) in record { answer = whole.0; report = whole.1 }
+returns-in-Ok c =
+    let whole = value-promised (first_of (quotient_order c.args.sheet.now c.args.dividend c.args.divisor)) _ (c.quotient.ensures ∙ ap (λ (s : List ℕ). quotient_answer s c.args.dividend c.args.divisor) c.in-Ok.ensures) in record { answer = whole.0; report = whole.1 }
 
-pub returns-in-Done : goal.returns-in-Done
+pub returns-in-Err : goal.returns-in-Err
 unfolding quotient_answer quotient_report
-returns-in-Done c =
+returns-in-Err c =
     let whole = value-promised (first_of (quotient_order c.args.sheet.now c.args.dividend c.args.divisor)) _
-    (ap value.Done c.divided.ensures ∙ judged_done value.Refused _ _ c.division_verdict-verdict.ensures c.in-Done.is) in record { answer = whole.0; report = whole.1 }
+    (answer-refused value.Refused _ (part-refused (value_order c.args.sheet.now (c.args.dividend ∷ c.args.divisor ∷ [])) (zero_rule c.args.divisor ∷ []) c.in-Err.refusal.number c.in-Err.refusal.place (part-refused (shape_order c.args.sheet.now) (element_order (record_count c.args.sheet.now) (c.args.dividend ∷ c.args.divisor ∷ [])) c.in-Err.refusal.number c.in-Err.refusal.place c.in-Err.ensures))) in record { answer = whole.0; report = whole.1 }

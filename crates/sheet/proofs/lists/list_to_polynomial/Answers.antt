@@ -1,31 +1,31 @@
--- `sheet::lists::list_to_polynomial` meets its contract: it judges, and then works.
+-- `sheet::lists::list_to_polynomial` meets its contract: the shape is judged, and then what the sheet answers is the answer.
 -- Assumes nothing.
-use mathlib.Core.Path.{◌∙◌}
-use lib.ListN.{length}
+use Rattle.std.proofs.Common.{List, [], ◌∷◌, ℕ, ap, ◌∙◌, length}
 use Rattle.refusals.specs.Verdicts.{first_of}
-use Rattle.refusals.specs.Answered.{judged_clear, judged_verdict, judged_refused, judged_done, left-clear, left-refused, checked_promised}
+use Rattle.refusals.specs.Orders.{part-refused}
+use Rattle.refusals.specs.Answered.{answer-refused, left-refused, checked_promised}
 use Rattle.refusals.specs.declared.answer.Checked.TheVariants as checked
-use Rattle.sheet.specs.Orders.{polynomial_list_order}
+use Rattle.sheet.specs.Record.{record_count}
+use Rattle.sheet.specs.Orders.{shape_order, list_rule, list_order, value_rules, polynomial_list_order}
 use Rattle.sheet.specs.Answers.{polynomial_list_answer, polynomial_list_report, polynomial_list}
-use Rattle.sheet.proofs.ListsLaws.{polynomials_judged}
 use Rattle.sheet.proofs.lists.list_to_polynomial.Goals as goal
 
-pub fill_polynomials-requires : goal.fill_polynomials-requires
-fill_polynomials-requires c =
-    let order = polynomial_list_order c.args.sheet.now c.args.from.now (length c.args.into.now) in
-    let j = polynomials_judged c.args.sheet.now c.args.from.now (length c.args.into.now) (judged_clear (first_of order) c.polynomial_list_verdict-verdict.ensures c.in-Done.is) in
-    (j.0, j.1.lengths, j.2)
+pub returns-in-Ok : goal.returns-in-Ok
+unfolding polynomial_list_answer polynomial_list_report
+returns-in-Ok c =
+    let room = length c.args.into.now in
+    let p = checked_promised (first_of (polynomial_list_order c.args.sheet.now c.args.from.now room))
+    (c.list_to_polynomial.ensures.answer ∙ ap (λ (s : List ℕ). polynomial_list_answer s c.args.from.now room) c.in-Ok.ensures) in
+    record { answer = p.0; report = p.1; written = c.list_to_polynomial.ensures.written ∙ ap (λ (s : List ℕ). polynomial_list s c.args.from.now c.args.into.now) c.in-Ok.ensures }
 
-pub returns-in-Refused : goal.returns-in-Refused
+pub returns-in-Err : goal.returns-in-Err
 unfolding polynomial_list_answer polynomial_list_report polynomial_list
-returns-in-Refused c =
-    let order = polynomial_list_order c.args.sheet.now c.args.from.now (length c.args.into.now) in
-    let p = checked_promised (first_of order) (judged_refused checked.Refused checked.Done (first_of order) c.polynomial_list_verdict-verdict.ensures c.in-Refused.is) in
-    record { answer = p.0; report = p.1; written = left-refused _ c.args.into.now (judged_verdict (first_of order) c.polynomial_list_verdict-verdict.ensures c.in-Refused.is) }
-
-pub returns-in-Done : goal.returns-in-Done
-unfolding polynomial_list_answer polynomial_list_report polynomial_list
-returns-in-Done c =
-    let order = polynomial_list_order c.args.sheet.now c.args.from.now (length c.args.into.now) in
-    let p = checked_promised (first_of order) (judged_done checked.Refused checked.Done (first_of order) c.polynomial_list_verdict-verdict.ensures c.in-Done.is) in
-    record { answer = p.0; report = p.1; written = c.fill_polynomials.ensures ∙ left-clear _ c.args.into.now (judged_clear (first_of order) c.polynomial_list_verdict-verdict.ensures c.in-Done.is) }
+returns-in-Err c =
+    let sheet = c.args.sheet.now in
+    let from = c.args.from.now in
+    let room = length c.args.into.now in
+    let k = c.in-Err.refusal.number in
+    let i = c.in-Err.refusal.place in
+    let v = part-refused (list_order sheet (length from) room) (value_rules (record_count sheet) 0 from) k i (part-refused (shape_order sheet) (list_rule (length from) room ∷ []) k i c.in-Err.ensures) in
+    let p = checked_promised (first_of (polynomial_list_order sheet from room)) (answer-refused checked.Refused checked.Done v) in
+    record { answer = p.0; report = p.1; written = left-refused _ c.args.into.now v }

@@ -20,41 +20,41 @@ done start buffer i n tail C I T h inv = let e : i ≡ n = omega (arith, inv.0) 
 
 pub loop-i-init : goal.loop-i-init
 loop-i-init c =
-    (omega arith, sheet_start c.args.buffer.now c.args.n c.args.tail c.args.conjugates c.args.inverse c.args.table)
+    (omega arith, sheet_start c.args.buffer.now c.args.n c.args.tail c.args.basis.now.conjugates c.args.basis.now.inverse c.args.basis.now.table)
 
-pub offset_bounds-conjugates-i : goal.offset_bounds-conjugates-i
-offset_bounds-conjugates-i c = omega (arith, c.requires.0)
+pub offset_bounds-basis-i : goal.offset_bounds-basis-i
+offset_bounds-basis-i c = omega (arith, c.requires.0)
 
-pub bounds-conjugates-i : goal.bounds-conjugates-i
-bounds-conjugates-i c = omega (arith, c.requires.0)
+pub bounds-basis-i : goal.bounds-basis-i
+bounds-basis-i c = omega (arith, c.requires.0)
 
-pub offset_bounds-inverse-i : goal.offset_bounds-inverse-i
-offset_bounds-inverse-i c = omega (arith, c.requires.0)
+pub offset_bounds-basis-i-in-loop-i : goal.offset_bounds-basis-i-in-loop-i
+offset_bounds-basis-i-in-loop-i c = omega (arith, c.requires.0)
 
-pub bounds-inverse-i : goal.bounds-inverse-i
-bounds-inverse-i c = omega (arith, c.requires.0)
+pub bounds-basis-i-in-loop-i : goal.bounds-basis-i-in-loop-i
+bounds-basis-i-in-loop-i c = omega (arith, c.requires.0)
 
-pub offset_bounds-table-i : goal.offset_bounds-table-i
-offset_bounds-table-i c = omega (arith, c.requires.0)
+pub offset_bounds-basis-i-in-loop-i-2 : goal.offset_bounds-basis-i-in-loop-i-2
+offset_bounds-basis-i-in-loop-i-2 c = omega (arith, c.requires.0)
 
-pub bounds-table-i : goal.bounds-table-i
-bounds-table-i c = omega (arith, c.requires.0)
+pub bounds-basis-i-in-loop-i-2 : goal.bounds-basis-i-in-loop-i-2
+bounds-basis-i-in-loop-i-2 c = omega (arith, c.requires.0)
 
 pub put_record-requires : goal.put_record-requires
 put_record-requires c =
-    omega (arith, c.requires.1, put-length c.args.buffer.now c.loop-i.buffer c.loop-i.i c.args.n c.args.tail c.args.conjugates c.args.inverse c.args.table c.requires.1 c.loop-i.invariant.0 c.loop-i.invariant.1)
+    omega (arith, c.requires.1, put-length c.args.buffer.now c.loop-i.buffer c.loop-i.i c.args.n c.args.tail c.args.basis.now.conjugates c.args.basis.now.inverse c.args.basis.now.table c.requires.1 c.loop-i.invariant.0 c.loop-i.invariant.1)
 
 pub loop-i-preserved : goal.loop-i-preserved
 loop-i-preserved c = (
   omega arith,
-  sheet_turn c.args.buffer.now c.loop-i.buffer c.put_record.new.buffer c.loop-i.i c.args.n c.args.tail c.args.conjugates c.args.inverse c.args.table
+  sheet_turn c.args.buffer.now c.loop-i.buffer c.put_record.new.buffer c.loop-i.i c.args.n c.args.tail c.args.basis.now.conjugates c.args.basis.now.inverse c.args.basis.now.table
       (omega (arith, c.requires.1, c.loop-i-test.true)) c.loop-i.invariant.1 c.put_record.ensures,
 )
 
 pub shape_of-buffer : goal.shape_of-buffer
 shape_of-buffer c =
-    put-length c.args.buffer.now c.loop-i.buffer c.loop-i.i c.args.n c.args.tail c.args.conjugates c.args.inverse c.args.table c.requires.1 c.loop-i.invariant.0 c.loop-i.invariant.1
+    put-length c.args.buffer.now c.loop-i.buffer c.loop-i.i c.args.n c.args.tail c.args.basis.now.conjugates c.args.basis.now.inverse c.args.basis.now.table c.requires.1 c.loop-i.invariant.0 c.loop-i.invariant.1
 
 pub returns : goal.returns
 returns c =
-    done c.args.buffer.now c.loop-i.buffer c.loop-i.i c.args.n c.args.tail c.args.conjugates c.args.inverse c.args.table c.loop-i-test.false c.loop-i.invariant
+    done c.args.buffer.now c.loop-i.buffer c.loop-i.i c.args.n c.args.tail c.args.basis.now.conjugates c.args.basis.now.inverse c.args.basis.now.table c.loop-i-test.false c.loop-i.invariant

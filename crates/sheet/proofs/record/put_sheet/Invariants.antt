@@ -7,4 +7,4 @@ use Rattle.sheet.specs.Bytes.{pasted}
 use Rattle.sheet.proofs.record.put_sheet.Given as goal
 
 abbrev pub invariant-loop-i : goal.invariant-loop-i
-invariant-loop-i l = (l.i ≤ l.n) × (l.buffer ≡ pasted l.initial.buffer 0 (records_to l.i l.n l.tail l.conjugates l.inverse l.table))
+invariant-loop-i l = (l.i ≤ l.n) × (l.buffer ≡ pasted l.initial.buffer 0 (records_to l.i l.n l.tail l.basis.conjugates l.basis.inverse l.basis.table))
