@@ -7,7 +7,7 @@ ghost use Rattle.causes.specs.Causes.{bare_reason, cause_report};
 ghost use Rattle.causes.specs.declared.answer.Cause.TheVariants as cause;
 ghost use Rattle.capi.specs.Answers.{desk_value, desk_issued, desk_found, desk_cause, desk_word, found_flag};
 
-use causes::{Cause, Difference, field_number};
+use causes::{Cause, Difference};
 use normal::grade_number;
 use refusals::{Checked, Value};
 use search::Search;
@@ -177,7 +177,7 @@ fn difference_out(difference: Difference) -> DeskCause
         number: 10,
         place: difference.place as u64,
         cause: 0,
-        field: field_number(field),
+        field: u64::from(field),
         stored: difference.stored,
         right: difference.right,
     }

@@ -1,25 +1,38 @@
 // Why a call refuses: a case for each kind of cause (document 02, §5).
 ghost use Rattle.std.specs.Prelude.{◌≡◌};
-ghost use Rattle.causes.specs.Causes.{field_number};
+ghost use Rattle.causes.specs.Causes.{number_of, field_number};
 
 use refusals::Refusal;
+use sheet::Row;
 
-// The rows of a record, in byte order.
-#[derive(Clone, Copy)]
+// The rows of a record, in byte order, by their numbers.
+#[derive(Clone, Copy, Debug, PartialEq, Eq)]
 pub enum Field {
-    Conjugate,
-    Inverse,
-    Table,
+    Conjugate = 1,
+    Inverse = 2,
+    Table = 3,
 }
 
-// The number of a field: 1, 2 or 3.
-pub fn field_number(field: Field) -> u64
-    ensures { result ≡ field_number field }
-{
-    match field {
-        Field::Conjugate => 1,
-        Field::Inverse => 2,
-        Field::Table => 3,
+impl Field {
+    // The number that a record has there.
+    #[tactic(auto, unfolding(crate::specs::Causes::number_of))]
+    pub(crate) fn number_of(self, row: Row) -> u64
+        ensures { result ≡ number_of self row }
+    {
+        match self {
+            Field::Conjugate => row.conjugate,
+            Field::Inverse => row.inverse,
+            Field::Table => row.table,
+        }
+    }
+}
+
+impl From<Field> for u64 {
+    ghost from_gives = { λ field number. number ≡ field_number field };
+
+    #[tactic(auto, unfolding(crate::specs::Causes::field_number))]
+    fn from(field: Field) -> u64 {
+        field as u64
     }
 }
 

@@ -5,7 +5,7 @@ ghost use Rattle.field.specs.Accepted.{InRange, Operand};
 ghost use Rattle.normal.specs.Normal.{normal, dependency};
 ghost use Rattle.sheet.specs.Record.{sheet_bytes};
 ghost use Rattle.sheet.specs.Sheets.{Based};
-ghost use Rattle.causes.specs.Causes.{row_of, difference_of, polynomial_cause, basis_cause};
+ghost use Rattle.causes.specs.Causes.{row_of, first_field_lem, difference_of, polynomial_cause, basis_cause};
 
 use super::answer::{Cause, Difference, Field};
 use divisors::smallest_divisor;
@@ -44,8 +44,7 @@ fn dependency_of(f: u64, n: u32, element: u64) -> u64
     ensures { result ≡ dependency f n element }
 {
     let spread = spread_table();
-    let built = build_basis(&spread, f, n, element);
-    built.dependency
+    build_basis(&spread, f, n, element).dependency
 }
 
 // Behind a refusal of f, of degree n, and the element.
@@ -65,15 +64,25 @@ pub fn right_row(f: u64, n: u32, element: u64, i: usize) -> Row
     ensures { result ≡ row_of (sheet_bytes f n element) i }
 {
     let spread = spread_table();
-    let built = build_basis(&spread, f, n, element);
-    let basis = built.basis;
-    let conjugates = basis.conjugates;
-    let inverse = basis.inverse;
-    let table = basis.table;
+    let basis = build_basis(&spread, f, n, element).basis;
     Row {
-        conjugate: conjugates[i],
-        inverse: inverse[i],
-        table: table[i],
+        conjugate: basis.conjugates[i],
+        inverse: basis.inverse[i],
+        table: basis.table[i],
+    }
+}
+
+// The first field in byte order in which two records differ.
+#[tactic(auto, unfolding(crate::specs::Causes::first_field_lem))]
+fn first_field(stored: Row, right: Row) -> Field
+    ensures { result ≡ first_field_lem stored right }
+{
+    if stored.conjugate != right.conjugate {
+        Field::Conjugate
+    } else if stored.inverse != right.inverse {
+        Field::Inverse
+    } else {
+        Field::Table
     }
 }
 
@@ -81,26 +90,11 @@ pub fn right_row(f: u64, n: u32, element: u64, i: usize) -> Row
 pub fn difference_of(i: usize, stored: Row, right: Row) -> Difference
     ensures { result ≡ difference_of i stored right }
 {
-    if stored.conjugate != right.conjugate {
-        return Difference {
-            place: i,
-            field: Field::Conjugate,
-            stored: stored.conjugate,
-            right: right.conjugate,
-        };
-    }
-    if stored.inverse != right.inverse {
-        return Difference {
-            place: i,
-            field: Field::Inverse,
-            stored: stored.inverse,
-            right: right.inverse,
-        };
-    }
+    let field = first_field(stored, right);
     Difference {
         place: i,
-        field: Field::Table,
-        stored: stored.table,
-        right: right.table,
+        field,
+        stored: field.number_of(stored),
+        right: field.number_of(right),
     }
 }

@@ -5,5 +5,5 @@ mod answer;
 mod behind;
 mod calls;
 
-pub use answer::{Cause, Difference, Field, field_number};
+pub use answer::{Cause, Difference, Field};
 pub use calls::{is_of_shape, why, why_build, why_check};

@@ -5,4 +5,4 @@ use Rattle.capi.proofs.answer.difference_out.Goals as goal
 
 pub returns : goal.returns
 unfolding cause_report
-returns c = rw c.field_number.ensures
+returns c = rw c.from.ensures

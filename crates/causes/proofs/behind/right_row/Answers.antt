@@ -5,22 +5,22 @@ use Rattle.sheet.proofs.Issuing.{based-degree, based-most}
 use Rattle.causes.specs.Cases.{right-row}
 use Rattle.causes.proofs.behind.right_row.Goals as goal
 
-pub build_basis-built-requires : goal.build_basis-built-requires
-build_basis-built-requires c =
+pub build_basis-requires : goal.build_basis-requires
+build_basis-requires c =
     let f = c.args.f in
     let n = c.args.n in
     let a = c.args.element in
     (c.spread_table-spread.ensures, based-most f n a c.requires.0, record { is_degree = based-degree f n a c.requires.0; below = c.requires.0.below })
 
-pub bounds-conjugates-i : goal.bounds-conjugates-i
-bounds-conjugates-i c = omega (arith, c.requires.1, based-most c.args.f c.args.n c.args.element c.requires.0)
+pub bounds-basis-i : goal.bounds-basis-i
+bounds-basis-i c = omega (arith, c.requires.1, based-most c.args.f c.args.n c.args.element c.requires.0)
 
-pub bounds-inverse-i : goal.bounds-inverse-i
-bounds-inverse-i c = omega (arith, c.requires.1, based-most c.args.f c.args.n c.args.element c.requires.0)
+pub bounds-basis-i-2 : goal.bounds-basis-i-2
+bounds-basis-i-2 c = omega (arith, c.requires.1, based-most c.args.f c.args.n c.args.element c.requires.0)
 
-pub bounds-table-i : goal.bounds-table-i
-bounds-table-i c = omega (arith, c.requires.1, based-most c.args.f c.args.n c.args.element c.requires.0)
+pub bounds-basis-i-3 : goal.bounds-basis-i-3
+bounds-basis-i-3 c = omega (arith, c.requires.1, based-most c.args.f c.args.n c.args.element c.requires.0)
 
 pub returns : goal.returns
 returns c =
-    right-row c.args.f c.args.n c.args.element c.args.i c.requires.0 c.requires.1 c.build_basis-built.ensures
+    right-row c.args.f c.args.n c.args.element c.args.i c.requires.0 c.requires.1 c.build_basis.ensures
