@@ -8,7 +8,7 @@ const FIELDS: [u64; 19] = [
     524327, 1048585,
 ];
 
-// The least complexity in a whole field, or 0, which no basis has. A line shows it as a number, so an Option would be taken apart again there.
+// The least complexity in a whole field, or 0, which no basis has. A line shows it as a number, so an Option would be taken apart there.
 fn least_complexity(f: u64, last: u64) -> u64 {
     match found(search::search(f, 0, last)) {
         Ok(Some(best)) => u64::from(best.complexity),
