@@ -1,4 +1,5 @@
-// What the calls hand out: the numbers of document 01 for each case of an answer, in structs that C knows.
+// What the calls hand out: the numbers of document 01 for each case of an answer, in structs that C knows. Each is made of the library's
+// answer by From.
 ghost use Rattle.std.specs.Prelude.{◌≡◌};
 ghost use Rattle.refusals.specs.Answers.{value_report, checked_report};
 ghost use Rattle.sheet.specs.Answers.{issued_report};
@@ -9,9 +10,9 @@ ghost use Rattle.capi.specs.Answers.{desk_value, desk_issued, desk_found, desk_c
 
 use causes::{Cause, Difference};
 use normal::grade_number;
-use refusals::{Checked, Value};
-use search::Search;
-use sheet::Issued;
+use refusals::Refusal;
+use search::Best;
+use sheet::Summary;
 
 // The answer of a call that has one value, or none: then the value is 0.
 #[repr(C)]
@@ -66,55 +67,66 @@ pub struct DeskWord {
     pub value: u64,
 }
 
-// An answer of one value, handed out.
-pub fn value_out(answer: Value) -> DeskValue
-    ensures { result ≡ desk_value (value_report answer) }
-{
-    match answer {
-        Value::Refused(refusal) => DeskValue {
-            number: refusal.number as u64,
-            place: refusal.place as u64,
-            value: 0,
-        },
-        Value::Done(value) => DeskValue {
-            number: 0,
-            place: 0,
-            value,
-        },
+// An answer of one value.
+impl From<Result<u64, Refusal>> for DeskValue {
+    ghost from_gives = { λ answer out. out ≡ desk_value (value_report answer) };
+
+    fn from(answer: Result<u64, Refusal>) -> DeskValue {
+        match answer {
+            Ok(value) => DeskValue {
+                number: 0,
+                place: 0,
+                value,
+            },
+            Err(refusal) => DeskValue {
+                number: refusal.fault.number() as u64,
+                place: refusal.place as u64,
+                value: 0,
+            },
+        }
     }
 }
 
 // An answer of no value, handed out as one of the value 0.
-pub fn checked_out(answer: Checked) -> DeskValue
-    ensures { result ≡ desk_value (checked_report answer) }
-{
-    match answer {
-        Checked::Refused(refusal) => value_out(Value::Refused(refusal)),
-        Checked::Done => value_out(Value::Done(0)),
+impl From<Result<(), Refusal>> for DeskValue {
+    ghost from_gives = { λ answer out. out ≡ desk_value (checked_report answer) };
+
+    fn from(answer: Result<(), Refusal>) -> DeskValue {
+        match answer {
+            Ok(()) => DeskValue {
+                number: 0,
+                place: 0,
+                value: 0,
+            },
+            Err(refusal) => DeskValue {
+                number: refusal.fault.number() as u64,
+                place: refusal.place as u64,
+                value: 0,
+            },
+        }
     }
 }
 
-// The answer of build or of reading, handed out.
-pub fn issued_out(answer: Issued) -> DeskIssued
-    ensures { result ≡ desk_issued (issued_report answer) }
-{
-    match answer {
-        Issued::Refused(refusal) => DeskIssued {
-            number: refusal.number as u64,
-            place: refusal.place as u64,
-            degree: 0,
-            complexity: 0,
-            grade: 0,
-        },
-        Issued::Done(summary) => {
-            let grade = summary.grade;
-            DeskIssued {
+// The answer of build or of reading.
+impl From<Result<Summary, Refusal>> for DeskIssued {
+    ghost from_gives = { λ answer out. out ≡ desk_issued (issued_report answer) };
+
+    fn from(answer: Result<Summary, Refusal>) -> DeskIssued {
+        match answer {
+            Ok(summary) => DeskIssued {
                 number: 0,
                 place: 0,
                 degree: summary.degree as u64,
                 complexity: summary.complexity as u64,
-                grade: grade_number(grade),
-            }
+                grade: grade_number(summary.grade),
+            },
+            Err(refusal) => DeskIssued {
+                number: refusal.fault.number() as u64,
+                place: refusal.place as u64,
+                degree: 0,
+                complexity: 0,
+                grade: 0,
+            },
         }
     }
 }
@@ -133,23 +145,22 @@ fn not_found(number: u64) -> DeskFound
     }
 }
 
-// The answer of the search, handed out.
-pub fn found_out(answer: Search) -> DeskFound
-    ensures { result ≡ desk_found (found_flag answer) (case_report answer) }
-{
-    match answer {
-        Search::Refused(number) => not_found(number as u64),
-        Search::Nothing => not_found(0),
-        Search::Found(best) => {
-            let grade = best.grade;
-            DeskFound {
+// The answer of the search.
+impl From<Result<Option<Best>, Refusal>> for DeskFound {
+    ghost from_gives = { λ answer out. out ≡ desk_found (found_flag answer) (case_report answer) };
+
+    fn from(answer: Result<Option<Best>, Refusal>) -> DeskFound {
+        match answer {
+            Ok(Some(best)) => DeskFound {
                 number: 0,
                 found: 1,
                 element: best.element,
                 complexity: best.complexity as u64,
-                grade: grade_number(grade),
+                grade: grade_number(best.grade),
                 count: best.count,
-            }
+            },
+            Ok(None) => not_found(0),
+            Err(refusal) => not_found(refusal.fault.number() as u64),
         }
     }
 }
@@ -168,41 +179,47 @@ fn number_behind(number: u64, place: u64, cause: u64) -> DeskCause
     }
 }
 
-// How a record differs, handed out.
-fn difference_out(difference: Difference) -> DeskCause
-    ensures { result ≡ desk_cause (cause_report (cause.Differs difference)) }
-{
-    let field = difference.field;
-    DeskCause {
-        number: 10,
-        place: difference.place as u64,
-        cause: 0,
-        field: u64::from(field),
-        stored: difference.stored,
-        right: difference.right,
+// How a record differs.
+impl From<Difference> for DeskCause {
+    ghost from_gives = { λ difference out. out ≡ desk_cause (cause_report (cause.Differs difference)) };
+
+    fn from(difference: Difference) -> DeskCause {
+        DeskCause {
+            number: 10,
+            place: difference.place as u64,
+            cause: 0,
+            field: u64::from(difference.field),
+            stored: difference.stored,
+            right: difference.right,
+        }
     }
 }
 
-// A cause, handed out.
-pub fn cause_out(answer: Cause) -> DeskCause
-    ensures { result ≡ desk_cause (cause_report answer) }
-{
-    match answer {
-        Cause::Accepted => number_behind(0, 0, 0),
-        Cause::Refused(refusal) => number_behind(refusal.number as u64, refusal.place as u64, 0),
-        Cause::Divisor(divisor) => number_behind(2, 0, divisor),
-        Cause::Became(element) => number_behind(3, 0, element),
-        Cause::Dependency(set) => number_behind(5, 0, set),
-        Cause::Differs(difference) => difference_out(difference),
+impl From<Cause> for DeskCause {
+    ghost from_gives = { λ answer out. out ≡ desk_cause (cause_report answer) };
+
+    fn from(answer: Cause) -> DeskCause {
+        match answer {
+            Cause::Accepted => number_behind(0, 0, 0),
+            Cause::Refused(refusal) => {
+                number_behind(refusal.fault.number() as u64, refusal.place as u64, 0)
+            }
+            Cause::Divisor(divisor) => number_behind(2, 0, divisor),
+            Cause::Became(element) => number_behind(3, 0, element),
+            Cause::Dependency(set) => number_behind(5, 0, set),
+            Cause::Differs(difference) => DeskCause::from(difference),
+        }
     }
 }
 
-// What a word means, handed out.
-pub fn word_out(answer: Option<u64>) -> DeskWord
-    ensures { result ≡ desk_word answer }
-{
-    match answer {
-        None => DeskWord { clear: 0, value: 0 },
-        Some(value) => DeskWord { clear: 1, value },
+// What a word means.
+impl From<Option<u64>> for DeskWord {
+    ghost from_gives = { λ word out. out ≡ desk_word word };
+
+    fn from(word: Option<u64>) -> DeskWord {
+        match word {
+            None => DeskWord { clear: 0, value: 0 },
+            Some(value) => DeskWord { clear: 1, value },
+        }
     }
 }

@@ -8,17 +8,14 @@ ghost use Rattle.matrices.specs.Answers.{write_text_report, written_text, read_t
 ghost use Rattle.search.specs.Answers.{search_answer, search_report};
 ghost use Rattle.capi.specs.Answers.{desk_value, desk_issued, desk_found, desk_cause, found_flag};
 
-use super::answer::{
-    DeskCause, DeskFound, DeskIssued, DeskValue, cause_out, checked_out, found_out, issued_out,
-    value_out,
-};
+use super::answer::{DeskCause, DeskFound, DeskIssued, DeskValue};
 
 // Whether f is accepted. Its value is 0: there is none.
 #[unsafe(no_mangle)]
 pub extern "C" fn desk_check(f: u64) -> DeskValue
     ensures { result ≡ desk_value (check_report f) }
 {
-    checked_out(field::check(f))
+    DeskValue::from(field::check(f))
 }
 
 // a times b modulo f.
@@ -26,7 +23,7 @@ pub extern "C" fn desk_check(f: u64) -> DeskValue
 pub extern "C" fn desk_multiply(f: u64, a: u64, b: u64) -> DeskValue
     ensures { result ≡ desk_value (multiply_report f a b) }
 {
-    value_out(field::multiply(f, a, b))
+    DeskValue::from(field::multiply(f, a, b))
 }
 
 // a times a modulo f.
@@ -34,7 +31,7 @@ pub extern "C" fn desk_multiply(f: u64, a: u64, b: u64) -> DeskValue
 pub extern "C" fn desk_square(f: u64, a: u64) -> DeskValue
     ensures { result ≡ desk_value (square_report f a) }
 {
-    value_out(field::square(f, a))
+    DeskValue::from(field::square(f, a))
 }
 
 // The trace of a.
@@ -42,7 +39,7 @@ pub extern "C" fn desk_square(f: u64, a: u64) -> DeskValue
 pub extern "C" fn desk_trace(f: u64, a: u64) -> DeskValue
     ensures { result ≡ desk_value (trace_report f a) }
 {
-    value_out(field::trace(f, a))
+    DeskValue::from(field::trace(f, a))
 }
 
 // The sheet of f and the element, at the buffer's front.
@@ -51,7 +48,7 @@ pub extern "C" fn desk_build(f: u64, element: u64, buffer: &mut [u8]) -> DeskIss
     ensures answer { result ≡ desk_issued (build_report f element (length buffer.old)) }
     ensures written { buffer.new ≡ built_buffer f element buffer.old }
 {
-    issued_out(sheet::build(f, element, buffer))
+    DeskIssued::from(sheet::build(f, element, buffer))
 }
 
 // Whether the sheet is one that build writes.
@@ -59,7 +56,7 @@ pub extern "C" fn desk_build(f: u64, element: u64, buffer: &mut [u8]) -> DeskIss
 pub extern "C" fn desk_read(sheet: &[u8]) -> DeskIssued
     ensures { result ≡ desk_issued (read_report sheet.now) }
 {
-    issued_out(sheet::read(sheet))
+    DeskIssued::from(sheet::read(sheet))
 }
 
 // The element that normal coordinates stand for.
@@ -67,7 +64,7 @@ pub extern "C" fn desk_read(sheet: &[u8]) -> DeskIssued
 pub extern "C" fn desk_to_polynomial(sheet: &[u8], coordinates: u64) -> DeskValue
     ensures { result ≡ desk_value (polynomial_report sheet.now coordinates) }
 {
-    value_out(sheet::to_polynomial(sheet, coordinates))
+    DeskValue::from(sheet::to_polynomial(sheet, coordinates))
 }
 
 // The normal coordinates of an element.
@@ -75,7 +72,7 @@ pub extern "C" fn desk_to_polynomial(sheet: &[u8], coordinates: u64) -> DeskValu
 pub extern "C" fn desk_to_normal(sheet: &[u8], element: u64) -> DeskValue
     ensures { result ≡ desk_value (normal_report sheet.now element) }
 {
-    value_out(sheet::to_normal(sheet, element))
+    DeskValue::from(sheet::to_normal(sheet, element))
 }
 
 // The elements that a list of normal coordinates stands for.
@@ -84,7 +81,7 @@ pub extern "C" fn desk_list_to_polynomial(sheet: &[u8], from: &[u64], into: &mut
     ensures answer { result ≡ desk_value (polynomial_list_report sheet.now from.now (length into.old)) }
     ensures written { into.new ≡ polynomial_list sheet.now from.now into.old }
 {
-    checked_out(sheet::list_to_polynomial(sheet, from, into))
+    DeskValue::from(sheet::list_to_polynomial(sheet, from, into))
 }
 
 // The normal coordinates of a list of elements.
@@ -93,7 +90,7 @@ pub extern "C" fn desk_list_to_normal(sheet: &[u8], from: &[u64], into: &mut [u6
     ensures answer { result ≡ desk_value (normal_list_report sheet.now from.now (length into.old)) }
     ensures written { into.new ≡ normal_list sheet.now from.now into.old }
 {
-    checked_out(sheet::list_to_normal(sheet, from, into))
+    DeskValue::from(sheet::list_to_normal(sheet, from, into))
 }
 
 // The product of normal coordinates a and b.
@@ -101,7 +98,7 @@ pub extern "C" fn desk_list_to_normal(sheet: &[u8], from: &[u64], into: &mut [u6
 pub extern "C" fn desk_times(sheet: &[u8], a: u64, b: u64) -> DeskValue
     ensures { result ≡ desk_value (times_report sheet.now a b) }
 {
-    value_out(sheet::times(sheet, a, b))
+    DeskValue::from(sheet::times(sheet, a, b))
 }
 
 // The inverse of normal coordinates a.
@@ -109,7 +106,7 @@ pub extern "C" fn desk_times(sheet: &[u8], a: u64, b: u64) -> DeskValue
 pub extern "C" fn desk_inverse(sheet: &[u8], a: u64) -> DeskValue
     ensures { result ≡ desk_value (inverse_report sheet.now a) }
 {
-    value_out(sheet::inverse(sheet, a))
+    DeskValue::from(sheet::inverse(sheet, a))
 }
 
 // The quotient of normal coordinates.
@@ -117,7 +114,7 @@ pub extern "C" fn desk_inverse(sheet: &[u8], a: u64) -> DeskValue
 pub extern "C" fn desk_quotient(sheet: &[u8], dividend: u64, divisor: u64) -> DeskValue
     ensures { result ≡ desk_value (quotient_report sheet.now dividend divisor) }
 {
-    value_out(sheet::quotient(sheet, dividend, divisor))
+    DeskValue::from(sheet::quotient(sheet, dividend, divisor))
 }
 
 // The text of the n matrices of a sheet, at the front of the lent text.
@@ -126,7 +123,7 @@ pub extern "C" fn desk_write_matrices(sheet: &[u8], text: &mut [u8]) -> DeskIssu
     ensures answer { result ≡ desk_issued (write_text_report sheet.now (length text.old)) }
     ensures written { text.new ≡ written_text sheet.now text.old }
 {
-    issued_out(matrices::write_matrices(sheet, text))
+    DeskIssued::from(matrices::write_matrices(sheet, text))
 }
 
 // Whether the text is that of f and the element.
@@ -134,7 +131,7 @@ pub extern "C" fn desk_write_matrices(sheet: &[u8], text: &mut [u8]) -> DeskIssu
 pub extern "C" fn desk_read_matrices(f: u64, element: u64, text: &[u8]) -> DeskIssued
     ensures { result ≡ desk_issued (read_text_report f element text.now) }
 {
-    issued_out(matrices::read_matrices(f, element, text))
+    DeskIssued::from(matrices::read_matrices(f, element, text))
 }
 
 // Why reading refuses the sheet; all zero where it does not.
@@ -142,7 +139,7 @@ pub extern "C" fn desk_read_matrices(f: u64, element: u64, text: &[u8]) -> DeskI
 pub extern "C" fn desk_why(sheet: &[u8]) -> DeskCause
     ensures { result ≡ desk_cause (why_report sheet.now) }
 {
-    cause_out(causes::why(sheet))
+    DeskCause::from(causes::why(sheet))
 }
 
 // The normal class leader from first to last, both included, whose table has the fewest ones, the smallest on a tie, and the count of all
@@ -151,5 +148,5 @@ pub extern "C" fn desk_why(sheet: &[u8]) -> DeskCause
 pub extern "C" fn desk_search(f: u64, first: u64, last: u64) -> DeskFound
     ensures { result ≡ desk_found (found_flag (search_answer f first last)) (search_report f first last) }
 {
-    found_out(search::search(f, first, last))
+    DeskFound::from(search::search(f, first, last))
 }

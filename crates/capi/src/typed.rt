@@ -4,14 +4,14 @@ ghost use Rattle.std.specs.Prelude.{◌≡◌};
 ghost use Rattle.words.specs.Notation.{number_of, polynomial_of};
 ghost use Rattle.capi.specs.Answers.{desk_word};
 
-use super::answer::{DeskWord, word_out};
+use super::answer::DeskWord;
 
 // The number that a word means, in decimal or in hexadecimal.
 #[unsafe(no_mangle)]
 pub extern "C" fn desk_number_of(word: &[u8]) -> DeskWord
     ensures { result ≡ desk_word (number_of word.now) }
 {
-    word_out(words::number(word))
+    DeskWord::from(words::number(word))
 }
 
 // The polynomial that a word means: a number, or falling exponents.
@@ -19,5 +19,5 @@ pub extern "C" fn desk_number_of(word: &[u8]) -> DeskWord
 pub extern "C" fn desk_polynomial_of(word: &[u8]) -> DeskWord
     ensures { result ≡ desk_word (polynomial_of word.now) }
 {
-    word_out(words::polynomial(word))
+    DeskWord::from(words::polynomial(word))
 }

@@ -16,7 +16,7 @@ use Rattle.std.proofs.lemmas.Bool.{eqb-false}
 use Rattle.gf2.specs.Numbers.{order}
 use Rattle.gf2.specs.Truth.{bool_cases, not_true, and_parts, or_false}
 use Rattle.gf2.specs.Poly.{degree}
-use Rattle.refusals.specs.Verdicts.{Rule, clear, refuse, first_of}
+use Rattle.refusals.specs.Verdicts.{fault_number, Rule, clear, refuse, first_of}
 use Rattle.refusals.specs.Orders.{first-clear}
 use Rattle.refusals.specs.Told.{In, AtZero, Below}
 use Rattle.refusals.specs.Telling.{Lacks, absent_lacks, rule-applies, part_passed, every_also, listed-at-zero}
@@ -30,20 +30,22 @@ use Rattle.sheet.specs.Orders.{Shaped, room_rule, normal_rule, differ_rules, roo
 use Rattle.sheet.proofs.Clear.{clear-shaped}
 use Rattle.sheet.specs.Listed.{OnShape, differ-listed}
 use Rattle.sheet.proofs.Listed.{shape-listed}
+use Rattle.refusals.specs.declared.fault.Fault.TheVariants as faults
+use Rattle.refusals.specs.declared.fault.Fault.{Fault}
 
 -- ---- check
 
 module _ (f : ℕ) where
-  pub check_range : (n k p : ℕ) → n ≡ degree f → first_of (check_order f) ≡ refuse k p → (k ≡ 1 → ⊥) → InRange f n
+  pub check_range : (n : ℕ) (k : Fault) (p : ℕ) → n ≡ degree f → first_of (check_order f) ≡ refuse k p → (fault_number k ≡ 1 → ⊥) → InRange f n
   check_range n k p size e off =
-      let only : AtZero (1 ∷ []) k p → ⊥ = λ z. ⊎_elim off (λ (i : In k []). i) z.0 in
+      let only : AtZero (1 ∷ []) (fault_number k) p → ⊥ = λ z. ⊎_elim off (λ (i : In (fault_number k) []). i) z.0 in
       let x = part_passed (AtZero (1 ∷ [])) (degree_rule f ∷ []) (field_order f) k p (listed-at-zero (degree_rule f ∷ []) refl) only e in
       in_range f n size (first-clear (degree_rule f) [] x.0).0
 
-  pub check-divided : (p : ℕ) → first_of (check_order f) ≡ refuse 2 p → divided f (degree f) ≡ true
+  pub check-divided : (p : ℕ) → first_of (check_order f) ≡ refuse faults.Divided p → divided f (degree f) ≡ true
   check-divided p e = (rule-applies (degree_rule f ∷ []) (divisor_rule f) (return_rule f ∷ []) p refl (absent_lacks 2 (return_rule f ∷ []) refl) e).1
 
-  pub check-strays : (p : ℕ) → first_of (check_order f) ≡ refuse 3 p → strays f (degree f) ≡ true
+  pub check-strays : (p : ℕ) → first_of (check_order f) ≡ refuse faults.Strays p → strays f (degree f) ≡ true
   check-strays p e = (rule-applies (degree_rule f ∷ divisor_rule f ∷ []) (return_rule f) [] p refl tt e).1
 
 -- ---- build
@@ -55,9 +57,11 @@ operands_number k = (
 )
 
 module _ (f a room : ℕ) where
-  pub build-operand : (n k p : ℕ) → n ≡ degree f → first_of (build_order f a room) ≡ refuse k p → (k ≡ 1 → ⊥) → (k ≡ 4 → ⊥) → Operand f n a
+  pub build-operand : (n : ℕ) (k : Fault) (p : ℕ) → n ≡ degree f → first_of (build_order f a room) ≡ refuse k p
+      → (fault_number k ≡ 1 → ⊥) → (fault_number k ≡ 4 → ⊥) → Operand f n a
   build-operand n k p size e one four =
-      let only : AtZero (1 ∷ 4 ∷ []) k p → ⊥ = λ z. ⊎_elim one (λ (i : In k (4 ∷ [])). ⊎_elim four (λ (j : In k []). j) i) z.0 in
+      let only : AtZero (1 ∷ 4 ∷ []) (fault_number k) p → ⊥ =
+      λ z. ⊎_elim one (λ (i : In (fault_number k) (4 ∷ [])). ⊎_elim four (λ (j : In (fault_number k) []). j) i) z.0 in
       let x = part_passed (AtZero (1 ∷ 4 ∷ [])) (operand_order f (a ∷ [])) (room_rule (degree f) room ∷ basis_order f (degree f) a) k p
       (listed-at-zero (operand_order f (a ∷ [])) refl) only e in
       operand_judged f n a size x.0
@@ -69,13 +73,13 @@ module _ (f a room : ℕ) where
   abbrev last : Rule
   last = normal_rule f (degree f) a
 
-  pub build-divided : (p : ℕ) → first_of (build_order f a room) ≡ refuse 2 p → divided f (degree f) ≡ true
+  pub build-divided : (p : ℕ) → first_of (build_order f a room) ≡ refuse faults.Divided p → divided f (degree f) ≡ true
   build-divided p e = (rule-applies front (divisor_rule f) (return_rule f ∷ last ∷ []) p refl (absent_lacks 2 (return_rule f ∷ last ∷ []) refl) e).1
 
-  pub build-strays : (p : ℕ) → first_of (build_order f a room) ≡ refuse 3 p → strays f (degree f) ≡ true
+  pub build-strays : (p : ℕ) → first_of (build_order f a room) ≡ refuse faults.Strays p → strays f (degree f) ≡ true
   build-strays p e = (rule-applies (front ++ (divisor_rule f ∷ [])) (return_rule f) (last ∷ []) p refl (absent_lacks 3 (last ∷ []) refl) e).1
 
-  pub build_dependent : (p : ℕ) → first_of (build_order f a room) ≡ refuse 5 p → normal f (degree f) a ≡ false
+  pub build_dependent : (p : ℕ) → first_of (build_order f a room) ≡ refuse faults.NotNormal p → normal f (degree f) a ≡ false
   build_dependent p e = (not_true (normal f (degree f) a)).0 (rule-applies (room_order f a room) last [] p refl tt e).1
 
 -- ---- reading
@@ -90,15 +94,15 @@ shape-number k = (
       (order k 7),
 )
 
-pub read-shaped : (sheet : List ℕ) (k p : ℕ) → first_of (read_order sheet) ≡ refuse k p → (k < 7) ⊎ (9 < k) → Shaped sheet × (first_of (rebuild_order sheet) ≡ refuse k p)
+pub read-shaped : (sheet : List ℕ) (k : Fault) (p : ℕ) → first_of (read_order sheet) ≡ refuse k p → (fault_number k < 7) ⊎ (9 < fault_number k) → Shaped sheet × (first_of (rebuild_order sheet) ≡ refuse k p)
 read-shaped sheet k p e far =
     let x = part_passed (OnShape (record_count sheet)) (shape_order sheet) (rebuild_order sheet) k p (shape-listed sheet) off e in
     (clear-shaped sheet x.0, x.1)
   where
-    outside : (7 ≤ k) → (k ≤ 9) → ⊥
-    outside low high = ⊎_elim (λ (h : k < 7). omega arith) (λ (h : 9 < k). omega arith) far
+    outside : (7 ≤ fault_number k) → (fault_number k ≤ 9) → ⊥
+    outside low high = ⊎_elim (λ (h : fault_number k < 7). omega arith) (λ (h : 9 < fault_number k). omega arith) far
 
-    off : OnShape (record_count sheet) k p → ⊥
+    off : OnShape (record_count sheet) (fault_number k) p → ⊥
     off (inl (inl h, z)) = outside (omega arith) (omega arith)
     off (inl (inr h, z)) = absurd h
     off (inr (inl h, z)) = outside (omega arith) (omega arith)
@@ -126,21 +130,21 @@ module _ (sheet : List ℕ) where
       other m p (inl h, z) e = off (omega arith)
       other m p (inr h, z) e = absurd h
 
-  pub rebuild-divided : (p : ℕ) → first_of (rebuild_order sheet) ≡ refuse 2 p → divided (polynomial_in sheet) (degree (polynomial_in sheet)) ≡ true
+  pub rebuild-divided : (p : ℕ) → first_of (rebuild_order sheet) ≡ refuse faults.Divided p → divided (polynomial_in sheet) (degree (polynomial_in sheet)) ≡ true
   rebuild-divided p e =
       (rule-applies [] (divisor_rule f) (return_rule f ∷ normal_rule f n a ∷ differ) p refl
       (λ t. omega arith, (λ t. omega arith, differ_lacks 2 (λ t. omega arith))) e).1
 
-  pub rebuild-strays : (p : ℕ) → first_of (rebuild_order sheet) ≡ refuse 3 p → strays (polynomial_in sheet) (degree (polynomial_in sheet)) ≡ true
+  pub rebuild-strays : (p : ℕ) → first_of (rebuild_order sheet) ≡ refuse faults.Strays p → strays (polynomial_in sheet) (degree (polynomial_in sheet)) ≡ true
   rebuild-strays p e =
       (rule-applies (divisor_rule f ∷ []) (return_rule f) (normal_rule f n a ∷ differ) p refl
       (λ t. omega arith, differ_lacks 3 (λ t. omega arith)) e).1
 
-  pub rebuild_dependent : (p : ℕ) → first_of (rebuild_order sheet) ≡ refuse 5 p → normal (polynomial_in sheet) (record_count sheet) (conjugate_in sheet 0) ≡ false
+  pub rebuild_dependent : (p : ℕ) → first_of (rebuild_order sheet) ≡ refuse faults.NotNormal p → normal (polynomial_in sheet) (record_count sheet) (conjugate_in sheet 0) ≡ false
   rebuild_dependent p e =
       (not_true (normal f n a)).0 (rule-applies (field_order f) (normal_rule f n a) differ p refl (differ_lacks 5 (λ t. omega arith)) e).1
 
   -- 10 is found where the polynomial and the element have nothing to refuse
-  pub rebuild-differs : (p : ℕ) → first_of (rebuild_order sheet) ≡ refuse 10 p
-      → (first_of (basis_order (polynomial_in sheet) (record_count sheet) (conjugate_in sheet 0)) ≡ clear) × (first_of (differ_rules sheet (rebuilt_from sheet) 0 (record_count sheet)) ≡ refuse 10 p)
-  rebuild-differs p e = part_passed (λ m q. m ≡ 10 → ⊥) (basis_order f n a) differ 10 p (absent_lacks 10 (basis_order f n a) refl) (λ off. off refl) e
+  pub rebuild-differs : (p : ℕ) → first_of (rebuild_order sheet) ≡ refuse faults.Differs p
+      → (first_of (basis_order (polynomial_in sheet) (record_count sheet) (conjugate_in sheet 0)) ≡ clear) × (first_of (differ_rules sheet (rebuilt_from sheet) 0 (record_count sheet)) ≡ refuse faults.Differs p)
+  rebuild-differs p e = part_passed (λ m q. m ≡ 10 → ⊥) (basis_order f n a) differ faults.Differs p (absent_lacks 10 (basis_order f n a) refl) (λ off. off refl) e

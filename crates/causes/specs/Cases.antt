@@ -11,7 +11,9 @@ use Rattle.std.specs.Prelude.{◌≡◌, ◌⊎◌, false, List, ℕ, ◌≤◌,
 use Rattle.std.proofs.Math.Path.{refl}
 use Rattle.std.proofs.Common.{sym, ◌∙◌, ⊎_elim, arith}
 use borrow.Author.Tests.{eq-eqb, ne_eqb}
-use Rattle.refusals.specs.Verdicts.{Verdict, clear, refuse}
+use Rattle.refusals.specs.declared.fault.Fault.{Fault}
+use Rattle.refusals.specs.declared.fault.Fault.TheVariants as faults
+use Rattle.refusals.specs.Verdicts.{fault_number, Verdict, clear, refuse}
 use Rattle.refusals.specs.declared.answer.Refusal.{Refusal}
 use Rattle.field.specs.Field.{squared}
 use Rattle.divisors.specs.Smallest.{smallest_divisor}
@@ -69,33 +71,32 @@ right-row f n a i d h {b} e =
 -- ---- behind a refusal
 
 module _ (f n : ℕ) (r : Refusal) where
-  pub polynomial-divisor : r.number ≡ 2 → {s : ℕ} → s ≡ smallest_divisor f → cause.Divisor s ≡ polynomial_cause f n r.number r.place
+  pub polynomial-divisor : r.fault ≡ faults.Divided → {s : ℕ} → s ≡ smallest_divisor f → cause.Divisor s ≡ polynomial_cause f n r.fault r.place
   unfolding polynomial_cause
-  polynomial-divisor k e = rw (eq-eqb r.number 2 k, e)
+  polynomial-divisor k e = rw (k, e)
 
-  module _ (off : r.number ≡ 2 → ⊥) where
-    pub polynomial_became : r.number ≡ 3 → {y : ℕ} → y ≡ squared f n n 2 → cause.Became y ≡ polynomial_cause f n r.number r.place
-    unfolding polynomial_cause
-    polynomial_became k e = rw (ne_eqb r.number 2 off, eq-eqb r.number 3 k, e)
+  pub polynomial_became : r.fault ≡ faults.Strays → {y : ℕ} → y ≡ squared f n n 2 → cause.Became y ≡ polynomial_cause f n r.fault r.place
+  unfolding polynomial_cause
+  polynomial_became k e = rw (k, e)
 
-    pub polynomial-alone : (r.number ≡ 3 → ⊥) → cause.Refused r ≡ polynomial_cause f n r.number r.place
-    unfolding polynomial_cause
-    polynomial-alone k = rw (ne_eqb r.number 2 off, ne_eqb r.number 3 k) refl
+  pub polynomial-alone : (fault_number r.fault ≡ 2 → ⊥) → (fault_number r.fault ≡ 3 → ⊥) → cause.Refused r ≡ polynomial_cause f n r.fault r.place
+  unfolding polynomial_cause
+  polynomial-alone off k = rw (ne_eqb (fault_number r.fault) 2 off, ne_eqb (fault_number r.fault) 3 k) refl
 
   module _ (a : ℕ) where
-    pub basis_dependency : r.number ≡ 5 → {v : ℕ} → v ≡ dependency f n a → cause.Dependency v ≡ basis_cause f n a r.number r.place
+    pub basis_dependency : r.fault ≡ faults.NotNormal → {v : ℕ} → v ≡ dependency f n a → cause.Dependency v ≡ basis_cause f n a r.fault r.place
     unfolding basis_cause
-    basis_dependency k e = rw (eq-eqb r.number 5 k, e)
+    basis_dependency k e = rw (k, e)
 
-    pub basis_polynomial : (r.number ≡ 5 → ⊥) → {c : Cause} → c ≡ polynomial_cause f n r.number r.place → c ≡ basis_cause f n a r.number r.place
+    pub basis_polynomial : (fault_number r.fault ≡ 5 → ⊥) → {c : Cause} → c ≡ polynomial_cause f n r.fault r.place → c ≡ basis_cause f n a r.fault r.place
     unfolding basis_cause
-    basis_polynomial k e = rw (ne_eqb r.number 5 k) e
+    basis_polynomial k e = rw (ne_eqb (fault_number r.fault) 5 k) e
 
     -- 1 and 4
-    pub basis_alone : (r.number ≡ 1) ⊎ (r.number ≡ 4) → cause.Refused r ≡ basis_cause f n a r.number r.place
+    pub basis_alone : (fault_number r.fault ≡ 1) ⊎ (fault_number r.fault ≡ 4) → cause.Refused r ≡ basis_cause f n a r.fault r.place
     basis_alone k =
-        let off : (m : ℕ) → (m ≡ 1 → ⊥) → (m ≡ 4 → ⊥) → r.number ≡ m → ⊥ = λ m one four e.
-        ⊎_elim (λ (h : r.number ≡ 1). one (sym e ∙ h)) (λ (h : r.number ≡ 4). four (sym e ∙ h)) k in
+        let off : (m : ℕ) → (m ≡ 1 → ⊥) → (m ≡ 4 → ⊥) → fault_number r.fault ≡ m → ⊥ = λ m one four e.
+        ⊎_elim (λ (h : fault_number r.fault ≡ 1). one (sym e ∙ h)) (λ (h : fault_number r.fault ≡ 4). four (sym e ∙ h)) k in
         basis_polynomial (off 5 (λ e. omega arith) (λ e. omega arith))
         (polynomial-alone (off 2 (λ e. omega arith) (λ e. omega arith)) (off 3 (λ e. omega arith) (λ e. omega arith)))
 
@@ -105,17 +106,17 @@ unfolding built_of
 built_dependency f n a t {b} e = rw (e, t)
 
 module _ (sheet : List ℕ) (r : Refusal) where
-  pub sheet-differs : r.number ≡ 10 → {d : Difference} → d ≡ difference_in sheet r.place → cause.Differs d ≡ sheet_cause sheet r.number r.place
+  pub sheet-differs : r.fault ≡ faults.Differs → {d : Difference} → d ≡ difference_in sheet r.place → cause.Differs d ≡ sheet_cause sheet r.fault r.place
   unfolding sheet_cause
-  sheet-differs k e = rw (eq-eqb r.number 10 k, e)
+  sheet-differs k e = rw (k, e)
 
-  pub sheet_basis : (r.number ≡ 10 → ⊥) → {c : Cause} → c ≡ basis_cause (polynomial_in sheet) (record_count sheet) (conjugate_in sheet 0) r.number r.place
-      → c ≡ sheet_cause sheet r.number r.place
+  pub sheet_basis : (fault_number r.fault ≡ 10 → ⊥) → {c : Cause} → c ≡ basis_cause (polynomial_in sheet) (record_count sheet) (conjugate_in sheet 0) r.fault r.place
+      → c ≡ sheet_cause sheet r.fault r.place
   unfolding sheet_cause
-  sheet_basis k e = rw (ne_eqb r.number 10 k) e
+  sheet_basis k e = rw (ne_eqb (fault_number r.fault) 10 k) e
 
   -- 7, 8 and 9
-  pub sheet-alone : 7 ≤ r.number → r.number ≤ 9 → cause.Refused r ≡ sheet_cause sheet r.number r.place
+  pub sheet-alone : 7 ≤ fault_number r.fault → fault_number r.fault ≤ 9 → cause.Refused r ≡ sheet_cause sheet r.fault r.place
   sheet-alone low high =
       sheet_basis (λ e. omega arith)
       (basis_polynomial (polynomial_in sheet) (record_count sheet) r (conjugate_in sheet 0) (λ e. omega arith)
@@ -123,8 +124,8 @@ module _ (sheet : List ℕ) (r : Refusal) where
 
 -- ---- the calls
 
-module _ (behind : ℕ → ℕ → Cause) where
-  pub cause-refused : {v : Verdict} {r : Refusal} {c : Cause} → v ≡ refuse r.number r.place → c ≡ behind r.number r.place → c ≡ cause_of v behind
+module _ (behind : Fault → ℕ → Cause) where
+  pub cause-refused : {v : Verdict} {r : Refusal} {c : Cause} → v ≡ refuse r.fault r.place → c ≡ behind r.fault r.place → c ≡ cause_of v behind
   unfolding cause_of
   cause-refused e k = rw e k
 

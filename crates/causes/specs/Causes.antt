@@ -15,7 +15,8 @@
 use Rattle.std.specs.Prelude.{cond, List, ℕ, ◌*◌, eqb}
 use Rattle.gf2.specs.Limit.{limit}
 use Rattle.gf2.specs.Poly.{degree}
-use Rattle.refusals.specs.Verdicts.{Verdict, clear, refuse, first_of}
+use Rattle.refusals.specs.declared.fault.Fault.{Fault}
+use Rattle.refusals.specs.Verdicts.{fault_number, Verdict, clear, refuse, first_of}
 use Rattle.refusals.specs.Answers.{refusal_at}
 use Rattle.field.specs.Field.{squared}
 use Rattle.field.specs.Refusals.{check_order}
@@ -63,27 +64,27 @@ difference_in sheet i = difference_of i (row_of sheet i) (row_of (rebuilt_from s
 
 -- "For refusal 2, the smallest divisor of degree at least 1 as a number. For refusal 3, what x became": after n squarings, and x is the
 -- number 2
-unfoldable pub polynomial_cause : (f n number place : ℕ) → Cause
-polynomial_cause f n number place =
-    cond (eqb number 2) (cause.Divisor (smallest_divisor f))
-    (cond (eqb number 3) (cause.Became (squared f n n 2))
-    (cause.Refused (refusal_at number place)))
+unfoldable pub polynomial_cause : (f n : ℕ) (fault : Fault) (place : ℕ) → Cause
+polynomial_cause f n fault place =
+    cond (eqb (fault_number fault) 2) (cause.Divisor (smallest_divisor f))
+    (cond (eqb (fault_number fault) 3) (cause.Became (squared f n n 2))
+    (cause.Refused (refusal_at fault place)))
 
 -- "For refusal 5, the smallest non-zero number whose set bits select conjugates that sum to zero."
-unfoldable pub basis_cause : (f n a number place : ℕ) → Cause
-basis_cause f n a number place = cond (eqb number 5) (cause.Dependency (dependency f n a)) (polynomial_cause f n number place)
+unfoldable pub basis_cause : (f n a : ℕ) (fault : Fault) (place : ℕ) → Cause
+basis_cause f n a fault place = cond (eqb (fault_number fault) 5) (cause.Dependency (dependency f n a)) (polynomial_cause f n fault place)
 
 -- "For refusal 10, the record, .."
-unfoldable pub sheet_cause : (sheet : List ℕ) (number place : ℕ) → Cause
-sheet_cause sheet number place =
-    cond (eqb number 10) (cause.Differs (difference_in sheet place))
-    (basis_cause (polynomial_in sheet) (record_count sheet) (conjugate_in sheet 0) number place)
+unfoldable pub sheet_cause : (sheet : List ℕ) (fault : Fault) (place : ℕ) → Cause
+sheet_cause sheet fault place =
+    cond (eqb (fault_number fault) 10) (cause.Differs (difference_in sheet place))
+    (basis_cause (polynomial_in sheet) (record_count sheet) (conjugate_in sheet 0) fault place)
 
 -- ---- the calls
 
-unfoldable pub cause_of : Verdict → (ℕ → ℕ → Cause) → Cause
+unfoldable pub cause_of : Verdict → (Fault → ℕ → Cause) → Cause
 cause_of clear behind = cause.Accepted
-cause_of (refuse number place) behind = behind number place
+cause_of (refuse fault place) behind = behind fault place
 
 -- why reading refuses a sheet
 unfoldable pub why_answer : (sheet : List ℕ) → Cause
@@ -119,7 +120,7 @@ bare_reason k p c = record { number = k; place = p; cause = c; field = 0; stored
 
 unfoldable pub cause_report : Cause → Reason
 cause_report cause.Accepted = bare_reason 0 0 0
-cause_report (cause.Refused r) = bare_reason r.number r.place 0
+cause_report (cause.Refused r) = bare_reason (fault_number r.fault) r.place 0
 cause_report (cause.Divisor d) = bare_reason 2 0 d
 cause_report (cause.Became y) = bare_reason 3 0 y
 cause_report (cause.Dependency v) = bare_reason 5 0 v
@@ -128,16 +129,16 @@ cause_report (cause.Differs d) = record { number = 10; place = d.place; cause = 
 -- ---- the numbers of the calls
 
 -- number and place are the verdict's, and the rest is what lies behind them; all zero where nothing is refused
-unfoldable pub reason_of : Verdict → (ℕ → ℕ → Cause) → Reason
+unfoldable pub reason_of : Verdict → (Fault → ℕ → Cause) → Reason
 reason_of clear behind = bare_reason 0 0 0
-reason_of (refuse number place) behind =
+reason_of (refuse fault place) behind =
     record {
-      number = number;
+      number = fault_number fault;
       place = place;
-      cause = (cause_report (behind number place)).cause;
-      field = (cause_report (behind number place)).field;
-      stored = (cause_report (behind number place)).stored;
-      right = (cause_report (behind number place)).right;
+      cause = (cause_report (behind fault place)).cause;
+      field = (cause_report (behind fault place)).field;
+      stored = (cause_report (behind fault place)).stored;
+      right = (cause_report (behind fault place)).right;
     }
 
 unfoldable pub why_report : (sheet : List ℕ) → Reason

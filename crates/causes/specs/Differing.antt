@@ -32,6 +32,7 @@ use Rattle.sheet.specs.Sheets.{Based}
 use Rattle.sheet.proofs.Issuing.{based-degree, based-two, based-most, based-free}
 use Rattle.sheet.specs.Written.{same_equal}
 use Rattle.sheet.proofs.Written.{degree_is, row_is, tail_is, conjugate_is, inverse_is, table_is}
+use Rattle.refusals.specs.declared.fault.Fault.TheVariants as faults
 
 -- ---- the first record
 
@@ -43,11 +44,11 @@ pub record Differing (sheet rebuilt : List ℕ) (i k p : ℕ) : Type 0 where
 
 module _ (sheet rebuilt : List ℕ) where
   abbrev rule : ℕ → Rule
-  rule i = record { number = 10; place = i; applies = not (same (record_at sheet i) (record_at rebuilt i)) }
+  rule i = record { fault = faults.Differs; place = i; applies = not (same (record_at sheet i) (record_at rebuilt i)) }
 
-  pub differing_first : (k i p : ℕ) → first_of (differ_rules sheet rebuilt i k) ≡ refuse 10 p → Differing sheet rebuilt i k p
+  pub differing_first : (k i p : ℕ) → first_of (differ_rules sheet rebuilt i k) ≡ refuse faults.Differs p → Differing sheet rebuilt i k p
   unfolding differ_rules
-  differing_first zero i p e = absurd (refuse_not_clear 10 p (sym e ∙ first-none))
+  differing_first zero i p e = absurd (refuse_not_clear faults.Differs p (sym e ∙ first-none))
   differing_first (suc k) i p e =
       ⊎_elim
       (λ (t : same (record_at sheet i) (record_at rebuilt i) ≡ true).
@@ -63,11 +64,11 @@ module _ (sheet rebuilt : List ℕ) where
         other = d.other;
       })
       (λ (t : same (record_at sheet i) (record_at rebuilt i) ≡ false).
-      let z : i ≡ p = (refuse-parts 10 i 10 p (sym (first-applies (rule i) (differ_rules sheet rebuilt (i + 1) k) (rw t)) ∙ e)).1 in
+      let z : i ≡ p = (refuse-parts faults.Differs i faults.Differs p (sym (first-applies (rule i) (differ_rules sheet rebuilt (i + 1) k) (rw t)) ∙ e)).1 in
       record { from = omega arith; below = omega arith; before = λ j l h. absurd (omega arith); other = rw z at t })
       (bool_cases (same (record_at sheet i) (record_at rebuilt i)))
 
-  pub differ-place : (n p : ℕ) → first_of (differ_rules sheet rebuilt 0 n) ≡ refuse 10 p → p < n
+  pub differ-place : (n p : ℕ) → first_of (differ_rules sheet rebuilt 0 n) ≡ refuse faults.Differs p → p < n
   differ-place n p e = omega (arith, (differing_first n 0 p e).below)
 
 -- ---- a record is its six numbers

@@ -15,10 +15,10 @@ use Rattle.std.proofs.lemmas.Bool.{eqb-false}
 use Rattle.gf2.specs.Truth.{not_both, not_true}
 use Rattle.gf2.specs.Poly.{degree, Degree, Divides}
 use Rattle.gf2.specs.Degrees.{degree-eq}
-use Rattle.refusals.specs.Verdicts.{Verdict, clear, refuse, first_of}
+use Rattle.refusals.specs.Verdicts.{fault_number, Verdict, clear, refuse, first_of}
 use Rattle.refusals.specs.Answers.{refusal_at, answer_of}
 use Rattle.refusals.specs.declared.answer.Refusal.{Refusal}
-use Rattle.refusals.specs.Telling.{first_found, every_first}
+use Rattle.refusals.specs.Telling.{same_fault, first_found, every_first}
 use Rattle.field.specs.Accepted.{divided, strays}
 use Rattle.field.specs.Divided.{Divisor}
 use Rattle.field.specs.Field.{squared}
@@ -39,7 +39,6 @@ use Rattle.sheet.specs.Listed.{OnReading}
 use Rattle.sheet.proofs.Listed.{read-listed}
 use Rattle.sheet.specs.Sheets.{Based}
 use Rattle.sheet.specs.Written.{same_refl}
-use Rattle.sheet.specs.declared.answer.Issued.TheVariants as issued
 use Rattle.sheet.specs.declared.loading.Row.{Row}
 use Rattle.causes.specs.Causes.{row_of, number_of, first_field_lem, difference_in, field_number, polynomial_cause, basis_cause, sheet_cause, cause_of, why_answer}
 use Rattle.causes.specs.Behind.{read-shaped, rebuild-divided, rebuild-strays, rebuild_dependent, rebuild-differs}
@@ -50,6 +49,9 @@ use Rattle.causes.specs.declared.answer.Field.TheVariants as field
 use Rattle.causes.specs.declared.answer.Difference.{Difference}
 use Rattle.causes.specs.declared.answer.Cause.{Cause}
 use Rattle.causes.specs.declared.answer.Cause.TheVariants as cause
+use Rattle.std.specs.Prelude.{Ok, Err}
+use Rattle.refusals.specs.declared.fault.Fault.TheVariants as faults
+use Rattle.refusals.specs.declared.fault.Fault.{Fault}
 
 -- ---- what the causes say
 
@@ -111,7 +113,7 @@ first_field stored right = go (eqb stored.conjugate right.conjugate) refl (eqb s
     go false eb c ec = rw eb (eqb-false stored.conjugate right.conjugate eb)
 
 module _ (sheet : List ℕ) (z : Shaped sheet) (b : Based (polynomial_in sheet) (record_count sheet) (conjugate_in sheet 0))
-    (p : ℕ) (e : first_of (differ_rules sheet (rebuilt_from sheet) 0 (record_count sheet)) ≡ refuse 10 p) where
+    (p : ℕ) (e : first_of (differ_rules sheet (rebuilt_from sheet) 0 (record_count sheet)) ≡ refuse faults.Differs p) where
   abbrev stored : Row
   stored = row_of sheet p
 
@@ -166,15 +168,15 @@ module _ (sheet : List ℕ) (z : Shaped sheet) (b : Based (polynomial_in sheet) 
 -- ---- reading
 
 abbrev pub True : (sheet : List ℕ) → Cause → Type 0
-True sheet cause.Accepted = read_answer sheet ≡ issued.Done (summary_in sheet)
-True sheet (cause.Refused r) = (read_answer sheet ≡ issued.Refused r) × ((7 ≤ r.number) × (r.number ≤ 9))
-True sheet (cause.Divisor d) = (read_answer sheet ≡ issued.Refused (refusal_at 2 0)) × SmallestDivisor (polynomial_in sheet) (record_count sheet) d
+True sheet cause.Accepted = read_answer sheet ≡ Ok (summary_in sheet)
+True sheet (cause.Refused r) = (read_answer sheet ≡ Err r) × ((7 ≤ fault_number r.fault) × (fault_number r.fault ≤ 9))
+True sheet (cause.Divisor d) = (read_answer sheet ≡ Err (refusal_at faults.Divided 0)) × SmallestDivisor (polynomial_in sheet) (record_count sheet) d
 True sheet (cause.Became y) =
-    (read_answer sheet ≡ issued.Refused (refusal_at 3 0)) × ((y ≡ squared (polynomial_in sheet) (record_count sheet) (record_count sheet) 2) × (y ≡ 2 → ⊥))
+    (read_answer sheet ≡ Err (refusal_at faults.Strays 0)) × ((y ≡ squared (polynomial_in sheet) (record_count sheet) (record_count sheet) 2) × (y ≡ 2 → ⊥))
 True sheet (cause.Dependency v) =
-    (read_answer sheet ≡ issued.Refused (refusal_at 5 0)) × Dependency (conjugates (polynomial_in sheet) (record_count sheet) (conjugate_in sheet 0)) (record_count sheet) v
+    (read_answer sheet ≡ Err (refusal_at faults.NotNormal 0)) × Dependency (conjugates (polynomial_in sheet) (record_count sheet) (conjugate_in sheet 0)) (record_count sheet) v
 True sheet (cause.Differs d) =
-    (read_answer sheet ≡ issued.Refused (refusal_at 10 d.place))
+    (read_answer sheet ≡ Err (refusal_at faults.Differs d.place))
     × (Based (polynomial_in sheet) (record_count sheet) (conjugate_in sheet 0) × FirstDifference sheet (rebuilt_from sheet) d)
 
 module _ (sheet : List ℕ) where
@@ -187,65 +189,65 @@ module _ (sheet : List ℕ) where
   abbrev a : ℕ
   a = conjugate_in sheet 0
 
-  refuses : (k p : ℕ) → first_of (read_order sheet) ≡ refuse k p → read_answer sheet ≡ issued.Refused (refusal_at k p)
+  refuses : (k : Fault) (p : ℕ) → first_of (read_order sheet) ≡ refuse k p → read_answer sheet ≡ Err (refusal_at k p)
   unfolding read_answer answer_of
   refuses k p e = rw e
 
-  behind : (k p : ℕ) → first_of (read_order sheet) ≡ refuse k p → why_answer sheet ≡ sheet_cause sheet k p
+  behind : (k : Fault) (p : ℕ) → first_of (read_order sheet) ≡ refuse k p → why_answer sheet ≡ sheet_cause sheet k p
   unfolding why_answer cause_of
   behind k p e = rw e
 
   size : Shaped sheet → degree f ≡ n
   size z = degree-eq f n (polynomial-degree sheet z)
 
-  of_divisor : first_of (read_order sheet) ≡ refuse 2 0 → True sheet (why_answer sheet)
+  of_divisor : first_of (read_order sheet) ≡ refuse faults.Divided 0 → True sheet (why_answer sheet)
   unfolding sheet_cause basis_cause polynomial_cause
   of_divisor e =
-      let x = read-shaped sheet 2 0 e (inl (omega arith)) in
-      rw (behind 2 0 e) (refuses 2 0 e, divisor_true f n (polynomial-degree sheet x.0) x.0.size.two (rw (size x.0) at (rebuild-divided sheet 0 x.1)))
+      let x = read-shaped sheet faults.Divided 0 e (inl (omega arith)) in
+      rw (behind faults.Divided 0 e) (refuses faults.Divided 0 e, divisor_true f n (polynomial-degree sheet x.0) x.0.size.two (rw (size x.0) at (rebuild-divided sheet 0 x.1)))
 
-  of_became : first_of (read_order sheet) ≡ refuse 3 0 → True sheet (why_answer sheet)
+  of_became : first_of (read_order sheet) ≡ refuse faults.Strays 0 → True sheet (why_answer sheet)
   unfolding sheet_cause basis_cause polynomial_cause
   of_became e =
-      let x = read-shaped sheet 3 0 e (inl (omega arith)) in
-      rw (behind 3 0 e) (refuses 3 0 e, (refl, became_true f n (polynomial-degree sheet x.0) x.0.size.two (rw (size x.0) at (rebuild-strays sheet 0 x.1))))
+      let x = read-shaped sheet faults.Strays 0 e (inl (omega arith)) in
+      rw (behind faults.Strays 0 e) (refuses faults.Strays 0 e, (refl, became_true f n (polynomial-degree sheet x.0) x.0.size.two (rw (size x.0) at (rebuild-strays sheet 0 x.1))))
 
-  of_dependency : first_of (read_order sheet) ≡ refuse 5 0 → True sheet (why_answer sheet)
+  of_dependency : first_of (read_order sheet) ≡ refuse faults.NotNormal 0 → True sheet (why_answer sheet)
   unfolding sheet_cause basis_cause
   of_dependency e =
-      let x = read-shaped sheet 5 0 e (inl (omega arith)) in
+      let x = read-shaped sheet faults.NotNormal 0 e (inl (omega arith)) in
       let two : 2 ≤ n = x.0.size.two in
-      rw (behind 5 0 e) (refuses 5 0 e, dependency_true f n (polynomial-degree sheet x.0) two a (columns-lt sheet x.0 0 (omega arith)).1 (rebuild_dependent sheet 0 x.1))
+      rw (behind faults.NotNormal 0 e) (refuses faults.NotNormal 0 e, dependency_true f n (polynomial-degree sheet x.0) two a (columns-lt sheet x.0 0 (omega arith)).1 (rebuild_dependent sheet 0 x.1))
 
-  of_difference : (p : ℕ) → first_of (read_order sheet) ≡ refuse 10 p → True sheet (why_answer sheet)
+  of_difference : (p : ℕ) → first_of (read_order sheet) ≡ refuse faults.Differs p → True sheet (why_answer sheet)
   unfolding sheet_cause difference_in
   of_difference p e =
-      let x = read-shaped sheet 10 p e (inr (omega arith)) in
+      let x = read-shaped sheet faults.Differs p e (inr (omega arith)) in
       let d = rebuild-differs sheet p x.1 in
       let b = shaped-based sheet x.0 d.0 in
-      rw (behind 10 p e) (refuses 10 p e, (b, difference_true sheet x.0 b p d.1))
+      rw (behind faults.Differs p e) (refuses faults.Differs p e, (b, difference_true sheet x.0 b p d.1))
 
   -- what lies behind reading's refusal
-  pub why-behind : (r : Refusal) → read_answer sheet ≡ issued.Refused r → why_answer sheet ≡ sheet_cause sheet r.number r.place
+  pub why-behind : (r : Refusal) → read_answer sheet ≡ Err r → why_answer sheet ≡ sheet_cause sheet r.fault r.place
   unfolding read_answer
-  why-behind r e = behind r.number r.place (refused_verdict (first_of (read_order sheet)) (summary_in sheet) e)
+  why-behind r e = behind r.fault r.place (refused_verdict (first_of (read_order sheet)) (summary_in sheet) e)
 
   -- 7, 8 and 9 have no cause beyond their number and place
-  pub shape-alone : (r : Refusal) → read_answer sheet ≡ issued.Refused r → 7 ≤ r.number → r.number ≤ 9 → why_answer sheet ≡ cause.Refused r
+  pub shape-alone : (r : Refusal) → read_answer sheet ≡ Err r → 7 ≤ fault_number r.fault → fault_number r.fault ≤ 9 → why_answer sheet ≡ cause.Refused r
   shape-alone r e low high = why-behind r e ∙ sym (sheet-alone sheet r low high)
 
-  of_shape : (k p : ℕ) → 7 ≤ k → k ≤ 9 → first_of (read_order sheet) ≡ refuse k p → True sheet (why_answer sheet)
+  of_shape : (k : Fault) (p : ℕ) → 7 ≤ fault_number k → fault_number k ≤ 9 → first_of (read_order sheet) ≡ refuse k p → True sheet (why_answer sheet)
   of_shape k p low high e = rw (shape-alone (refusal_at k p) (refuses k p e) low high) (refuses k p e, (low, high))
 
   pub why_true : True sheet (why_answer sheet)
   why_true = go (first_of (read_order sheet)) refl
     where
-      placed : (k p : ℕ) → OnReading (record_count sheet) k p → first_of (read_order sheet) ≡ refuse k p → True sheet (why_answer sheet)
-      placed k p (inl (inl h, q)) e = of_divisor (rw (h, q) at e)
-      placed k p (inl (inr (inl h), q)) e = of_became (rw (h, q) at e)
-      placed k p (inl (inr (inr (inl h)), q)) e = of_dependency (rw (h, q) at e)
+      placed : (k : Fault) (p : ℕ) → OnReading (record_count sheet) (fault_number k) p → first_of (read_order sheet) ≡ refuse k p → True sheet (why_answer sheet)
+      placed k p (inl (inl h, q)) e = of_divisor (rw (same_fault k faults.Divided h, q) at e)
+      placed k p (inl (inr (inl h), q)) e = of_became (rw (same_fault k faults.Strays h, q) at e)
+      placed k p (inl (inr (inr (inl h)), q)) e = of_dependency (rw (same_fault k faults.NotNormal h, q) at e)
       placed k p (inl (inr (inr (inr h)), q)) e = absurd h
-      placed k p (inr (inl (inl h, q))) e = of_difference p (rw h at e)
+      placed k p (inr (inl (inl h, q))) e = of_difference p (rw (same_fault k faults.Differs h) at e)
       placed k p (inr (inl (inr h, q))) e = absurd h
       placed k p (inr (inr (inl (inl h, q)))) e = of_shape k p (omega arith) (omega arith) e
       placed k p (inr (inr (inl (inr h, q)))) e = absurd h
@@ -260,4 +262,4 @@ module _ (sheet : List ℕ) where
 
       go : (v : Verdict) → first_of (read_order sheet) ≡ v → True sheet (why_answer sheet)
       go clear e = accepted e
-      go (refuse k p) e = placed k p (every_first (OnReading n) (read_order sheet) k p (read-listed sheet) (first_found (read_order sheet) k p e)) e
+      go (refuse k p) e = placed k p (every_first (OnReading n) (read_order sheet) (fault_number k) p (read-listed sheet) (first_found (read_order sheet) k p e)) e

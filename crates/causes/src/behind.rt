@@ -1,5 +1,6 @@
 // What lies behind a refusal: the number or the field that its condition speaks of.
 ghost use Rattle.std.specs.Prelude.{◌≡◌, false, ◌<◌};
+ghost use Rattle.refusals.specs.declared.fault.Fault.TheVariants.{NotNormal};
 ghost use Rattle.field.specs.Field.{squared};
 ghost use Rattle.field.specs.Accepted.{InRange, Operand};
 ghost use Rattle.normal.specs.Normal.{normal, dependency};
@@ -10,9 +11,9 @@ ghost use Rattle.causes.specs.Causes.{row_of, first_field_lem, difference_of, po
 use super::answer::{Cause, Difference, Field};
 use divisors::smallest_divisor;
 use field::squared_times;
-use gf2::spread_table;
+use gf2::Spread;
 use normal::build_basis;
-use refusals::Refusal;
+use refusals::{Fault, Refusal};
 use sheet::Row;
 
 // What x becomes after n squarings.
@@ -20,22 +21,20 @@ fn x_squared(f: u64, n: u32) -> u64
     requires { InRange f n }
     ensures { result ≡ squared f n n 2 }
 {
-    let spread = spread_table();
+    let spread = Spread::new();
     squared_times(&spread, f, n, n, 2)
 }
 
 // Behind a refusal of f, of degree n.
 pub fn polynomial_cause(f: u64, n: u32, refusal: Refusal) -> Cause
     requires { InRange f n }
-    ensures { result ≡ polynomial_cause f n refusal.number refusal.place }
+    ensures { result ≡ polynomial_cause f n refusal.fault refusal.place }
 {
-    if refusal.number == 2 {
-        return Cause::Divisor(smallest_divisor(f, n));
+    match refusal.fault {
+        Fault::Divided => Cause::Divisor(smallest_divisor(f, n)),
+        Fault::Strays => Cause::Became(x_squared(f, n)),
+        _ => Cause::Refused(refusal),
     }
-    if refusal.number == 3 {
-        return Cause::Became(x_squared(f, n));
-    }
-    Cause::Refused(refusal)
 }
 
 // The dependency of an element that is not normal.
@@ -43,19 +42,19 @@ fn dependency_of(f: u64, n: u32, element: u64) -> u64
     requires { Operand f n element × (normal f n element ≡ false) }
     ensures { result ≡ dependency f n element }
 {
-    let spread = spread_table();
+    let spread = Spread::new();
     build_basis(&spread, f, n, element).dependency
 }
 
 // Behind a refusal of f, of degree n, and the element.
 pub fn basis_cause(f: u64, n: u32, element: u64, refusal: Refusal) -> Cause
-    requires { Operand f n element × (refusal.number ≡ 5 → normal f n element ≡ false) }
-    ensures { result ≡ basis_cause f n element refusal.number refusal.place }
+    requires { Operand f n element × (refusal.fault ≡ NotNormal → normal f n element ≡ false) }
+    ensures { result ≡ basis_cause f n element refusal.fault refusal.place }
 {
-    if refusal.number == 5 {
-        return Cause::Dependency(dependency_of(f, n, element));
+    match refusal.fault {
+        Fault::NotNormal => Cause::Dependency(dependency_of(f, n, element)),
+        _ => polynomial_cause(f, n, refusal),
     }
-    polynomial_cause(f, n, refusal)
 }
 
 // Row i of each of the three matrices of a normal element.
@@ -63,7 +62,7 @@ pub fn right_row(f: u64, n: u32, element: u64, i: usize) -> Row
     requires { Based f n element × (i < n) }
     ensures { result ≡ row_of (sheet_bytes f n element) i }
 {
-    let spread = spread_table();
+    let spread = Spread::new();
     let basis = build_basis(&spread, f, n, element).basis;
     Row {
         conjugate: basis.conjugates[i],

@@ -1,29 +1,31 @@
 // The calls: why reading, check and build refuse. Each makes the call it speaks of, and tells what lies behind a refusal.
 ghost use Rattle.std.specs.Prelude.{◌≡◌, ◌&&◌, ◌||◌, leb, eqb};
-ghost use Rattle.refusals.specs.Verdicts.{refuse, first_of};
+ghost use Rattle.refusals.specs.Verdicts.{fault_number, refuse, first_of};
 ghost use Rattle.sheet.specs.Orders.{Shaped, rebuild_order, read_order};
 ghost use Rattle.causes.specs.Causes.{sheet_cause, cause_report, why_answer, why_report, why_check_answer, why_check_report, why_build_answer, why_build_report};
 
 use super::answer::Cause;
 use super::behind::{basis_cause, difference_of, polynomial_cause, right_row};
 use gf2::{LIMIT, degree_of};
-use refusals::{Checked, Refusal};
-use sheet::{Issued, RECORD, polynomial_of, row_at};
+use refusals::{Fault, Refusal};
+use sheet::{RECORD, polynomial_of, row_at};
 
 // Behind a refusal of a sheet whose shape is right.
 fn rebuilt_cause(sheet: &[u8], refusal: Refusal) -> Cause
-    requires { Shaped sheet.now × (first_of (rebuild_order sheet.now) ≡ refuse refusal.number refusal.place) }
-    ensures { result ≡ sheet_cause sheet.now refusal.number refusal.place }
+    requires { Shaped sheet.now × (first_of (rebuild_order sheet.now) ≡ refuse refusal.fault refusal.place) }
+    ensures { result ≡ sheet_cause sheet.now refusal.fault refusal.place }
 {
     let n = (sheet.len() / RECORD) as u32;
     let f = polynomial_of(sheet);
     let first = row_at(sheet, 0);
-    if refusal.number != 10 {
-        return basis_cause(f, n, first.conjugate, refusal);
+    match refusal.fault {
+        Fault::Differs => {
+            let place = refusal.place;
+            let right = right_row(f, n, first.conjugate, place);
+            Cause::Differs(difference_of(place, row_at(sheet, place), right))
+        }
+        _ => basis_cause(f, n, first.conjugate, refusal),
     }
-    let place = refusal.place;
-    let right = right_row(f, n, first.conjugate, place);
-    Cause::Differs(difference_of(place, row_at(sheet, place), right))
 }
 
 // Whether a refusal of reading speaks of the shape. After one that does not, the shape is right.
@@ -35,10 +37,10 @@ pub fn is_of_shape(number: u8) -> bool
 
 // Behind reading's refusal. One of the shape says all.
 fn sheet_cause(sheet: &[u8], refusal: Refusal) -> Cause
-    requires { first_of (read_order sheet.now) ≡ refuse refusal.number refusal.place }
-    ensures { result ≡ sheet_cause sheet.now refusal.number refusal.place }
+    requires { first_of (read_order sheet.now) ≡ refuse refusal.fault refusal.place }
+    ensures { result ≡ sheet_cause sheet.now refusal.fault refusal.place }
 {
-    if is_of_shape(refusal.number) {
+    if is_of_shape(refusal.fault.number()) {
         return Cause::Refused(refusal);
     }
     rebuilt_cause(sheet, refusal)
@@ -50,8 +52,8 @@ pub fn why(sheet: &[u8]) -> Cause
     ensures report { cause_report result ≡ why_report sheet.now }
 {
     match sheet::read(sheet) {
-        Issued::Refused(refusal) => sheet_cause(sheet, refusal),
-        Issued::Done(_) => Cause::Accepted,
+        Err(refusal) => sheet_cause(sheet, refusal),
+        Ok(_) => Cause::Accepted,
     }
 }
 
@@ -61,21 +63,19 @@ pub fn why_check(f: u64) -> Cause
     ensures report { cause_report result ≡ why_check_report f }
 {
     match field::check(f) {
-        Checked::Refused(refusal) => {
-            if refusal.number == 1 {
-                return Cause::Refused(refusal);
-            }
-            polynomial_cause(f, degree_of(f), refusal)
-        }
-        Checked::Done => Cause::Accepted,
+        Err(refusal) => match refusal.fault {
+            Fault::DegreeOutside => Cause::Refused(refusal),
+            _ => polynomial_cause(f, degree_of(f), refusal),
+        },
+        Ok(()) => Cause::Accepted,
     }
 }
 
 // Whether a refusal of build speaks of the degree of f or the size of the element.
-fn is_of_operands(number: u8) -> bool
-    ensures { result ≡ (eqb number 1 || eqb number 4) }
+fn is_of_operands(fault: Fault) -> bool
+    ensures { result ≡ (eqb (fault_number fault) 1 || eqb (fault_number fault) 4) }
 {
-    number == 1 || number == 4
+    matches!(fault, Fault::DegreeOutside | Fault::TooLarge)
 }
 
 // Why build refuses f and the element, with room for every sheet. A refusal of the operands says all.
@@ -85,12 +85,12 @@ pub fn why_build(f: u64, element: u64) -> Cause
 {
     let mut room = [0u8; RECORD * LIMIT];
     match sheet::build(f, element, &mut room) {
-        Issued::Refused(refusal) => {
-            if is_of_operands(refusal.number) {
+        Err(refusal) => {
+            if is_of_operands(refusal.fault) {
                 return Cause::Refused(refusal);
             }
             basis_cause(f, degree_of(f), element, refusal)
         }
-        Issued::Done(_) => Cause::Accepted,
+        Ok(_) => Cause::Accepted,
     }
 }

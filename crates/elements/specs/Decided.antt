@@ -6,9 +6,9 @@
 use Rattle.std.specs.Prelude.{◌≡◌, ℕ, true, false}
 use Rattle.normal.specs.Normal.{normal, table_rows, complexity}
 use Rattle.elements.specs.Ones.{Within}
-use Rattle.elements.specs.declared.deciding.Decided.{Decided}
-use Rattle.elements.specs.declared.deciding.Decided.TheVariants.{NotNormal, Normal}
+use Rattle.std.specs.declared.option.Option.{Option}
+use Rattle.std.specs.declared.option.Option.TheVariants.{None, Some}
 
-abbrev pub Decides : (f n y bound : ℕ) → Decided → Type 0
-Decides f n y bound NotNormal = normal f n y ≡ false
-Decides f n y bound (Normal c) = (normal f n y ≡ true) × Within bound c (complexity (table_rows f n y))
+abbrev pub Decides : (f n y bound : ℕ) → Option ℕ → Type 0
+Decides f n y bound None = normal f n y ≡ false
+Decides f n y bound (Some c) = (normal f n y ≡ true) × Within bound c (complexity (table_rows f n y))

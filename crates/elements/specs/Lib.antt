@@ -10,5 +10,6 @@ pub mod Reference
 pub mod Through
 pub mod Upper
 pub mod Ones
+pub mod Held
 pub mod Built
 pub mod Decided

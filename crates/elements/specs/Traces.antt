@@ -3,7 +3,6 @@
 --
 --   mask_to f n k    the sum of those x ^ i, i below k, whose trace is odd
 --   trace_mask f n   the number whose bit i is the trace of x ^ i, i below n
---   ModulusOf m     m is f, its degree and its mask of traces, and f is accepted
 --
 -- In order: the parity of the ones of a number; the bits of the mask; the trace by the mask (`mask_parity`); normal elements.
 -- Assumes nothing.
@@ -30,7 +29,6 @@ use Rattle.normal.specs.Normal.{normal}
 use Rattle.normal.proofs.Coordinates.{normal-means}
 use Rattle.normal.proofs.Conjugated.{normal-trace}
 use Rattle.elements.specs.Fields.{FieldOf}
-use Rattle.elements.specs.declared.modulus.Modulus.{Modulus}
 
 unfoldable pub mask_to : (f n k : ℕ) → ℕ
 mask_to f n zero = 0
@@ -39,10 +37,6 @@ mask_to f n (suc k) = mask_to f n k ⊕ trace f n (2 ^ k) % 2 * 2 ^ k
 -- The trace of an element is 0 or 1 for an accepted f (`trace-bit`), so that it is its own remainder by 2.
 unfoldable pub trace_mask : (f n : ℕ) → ℕ
 trace_mask f n = mask_to f n n
-
-pub record ModulusOf (m : Modulus) : Type 0 where
-  pub of_field : FieldOf m.f m.n
-  pub of_mask : m.mask ≡ trace_mask m.f m.n
 
 -- ---- the parity of the ones of a number
 

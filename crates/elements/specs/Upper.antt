@@ -2,9 +2,6 @@
 -- those of every multiple of x ^ n of degree below 2n, so that a product is turned into coordinates without being reduced.
 --
 --   upper_rows f n sums                      row i: the coordinates of x ^ (n + i) in the reference's basis; "entries from n upward are zero"
---   RowTables f n y r sums uppers ys rs     what a table row is made of: the reference, and the multiples of y and of r
---   SquaresOf m squares                     the modulus, and the byte sums of squares modulo its f
---   Tables m squares sums uppers            what all elements share: these, the reference, and the coordinates of x ^ n to x ^ (2n - 1)
 --
 -- In order: what bytes pick; the coordinates of a product that is not reduced; the rows one by one. Assumes nothing.
 use Rattle.std.specs.Prelude.{◌≡◌, ℕ, ◌+◌, ◌-◌, ◌*◌, ◌^◌, ◌<◌, List, bit_xor}
@@ -24,31 +21,12 @@ use Rattle.rows.specs.ByteSums.{bytes, byte_sums, picked_bytes, bytes_pick}
 use Rattle.normal.specs.Normal.{inverse_rows, listed, padded}
 use Rattle.normal.specs.Coordinates.{listed_ext}
 use Rattle.normal.specs.Filling.{padded_linear}
-use Rattle.elements.specs.Squares.{square_rows}
-use Rattle.elements.specs.Traces.{ModulusOf}
 use Rattle.elements.specs.Reference.{Reference, through}
 use Rattle.elements.specs.Through.{through-comb}
-use Rattle.elements.specs.Multiples.{multiples_of}
 use Rattle.elements.specs.Windows.{Unreduced}
-use Rattle.elements.specs.declared.modulus.Modulus.{Modulus}
 
 unfoldable pub upper_rows : (f n : ℕ) (sums : List ℕ) → List ℕ
 upper_rows f n sums = padded (listed n (λ i. through sums (rem f n (2 ^ i * 2 ^ n))))
-
-pub record RowTables (f n y r : ℕ) (sums uppers ys rs : List ℕ) : Type 0 where
-  pub reference : Reference f n sums
-  pub of_uppers : uppers ≡ byte_sums bytes (upper_rows f n sums)
-  pub of_ys : ys ≡ multiples_of f n y
-  pub of_rs : rs ≡ multiples_of (2 ^ n + 1) n r
-
-pub record SquaresOf (m : Modulus) (squares : List ℕ) : Type 0 where
-  pub of_modulus : ModulusOf m
-  pub held : squares ≡ byte_sums bytes (square_rows m.f m.n)
-
-pub record Tables (m : Modulus) (squares sums uppers : List ℕ) : Type 0 where
-  pub of_squares : SquaresOf m squares
-  pub reference : Reference m.f m.n sums
-  pub of_uppers : uppers ≡ byte_sums bytes (upper_rows m.f m.n sums)
 
 -- ---- what bytes pick
 

@@ -2,55 +2,38 @@
 // element's own basis.
 ghost use Rattle.std.specs.Prelude.{ℕ, ◌^◌, ◌<◌};
 ghost use Rattle.elements.specs.Fields.{ElementOf};
-ghost use Rattle.elements.specs.Upper.{Tables};
+ghost use Rattle.elements.specs.Held.{f_of, n_of};
 ghost use Rattle.elements.specs.Decided.{Decides};
 
-use super::modulus::Modulus;
-use super::reference::ones_within;
 use super::units::{Witness, unit_of};
-use gf2::spread_table;
+use super::upper::Tables;
+use gf2::Spread;
 use normal::{build_basis, complexity_of};
-use rows::{BYTE_SUMS, sum_by_bytes};
 
-// An element is not normal, or it is, and its table has so many ones.
-#[derive(Clone, Copy)]
-pub enum Decided {
-    NotNormal,
-    Normal(u32),
-}
-
-// By the basis of y: the count is exact.
-fn decide_by_basis(f: u64, n: u32, y: u64) -> Decided
+// By the basis of y: the count is exact. None: y is not normal.
+fn decide_by_basis(f: u64, n: u32, y: u64) -> Option<u32>
     requires { ElementOf f n y }
     ensures { (bound : ℕ) → Decides f n y bound result }
 {
-    let spread = spread_table();
+    let spread = Spread::new();
     let built = build_basis(&spread, f, n, y);
     if !built.normal {
-        return Decided::NotNormal;
+        return None;
     }
-    let table = built.basis.table;
-    Decided::Normal(complexity_of(table, n as usize))
+    Some(complexity_of(built.basis.table, n as usize))
 }
 
-// Through the reference: the count is exact up to the bound.
-pub fn decide(
-    squares: &[u64; BYTE_SUMS],
-    sums: &[u64; BYTE_SUMS],
-    uppers: &[u64; BYTE_SUMS],
-    m: Modulus,
-    y: u64,
-    bound: u32,
-) -> Decided
-    requires { Tables m squares.now sums.now uppers.now × (y < 2 ^ m.n) }
-    ensures { Decides m.f m.n y bound result }
-{
-    let witness = unit_of(m.n, sum_by_bytes(sums, y));
-    match witness {
-        Witness::Unknown => decide_by_basis(m.f, m.n, y),
-        Witness::Vanishes(_) => Decided::NotNormal,
-        Witness::Inverse(r) => {
-            Decided::Normal(ones_within(squares, sums, uppers, m, y, r, bound))
+impl<'a> Tables<'a> {
+    // How many ones the table of y has, if y is normal, through the reference: the count is exact up to the bound. None: y is not normal.
+    pub fn decide(&self, y: u64, bound: u32) -> Option<u32>
+        requires { y < 2 ^ n_of self.now.reference }
+        ensures { Decides (f_of self.now.reference) (n_of self.now.reference) y bound result }
+    {
+        let squares = &self.reference.modulus.squares;
+        match unit_of(squares.n, self.reference.coordinates(y)) {
+            Witness::Unknown => decide_by_basis(squares.f, squares.n, y),
+            Witness::Vanishes(_) => None,
+            Witness::Inverse(r) => Some(self.ones_within(y, r, bound)),
         }
     }
 }

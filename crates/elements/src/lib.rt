@@ -6,14 +6,13 @@ mod deciding;
 mod modulus;
 mod reference;
 mod squares;
+mod tables;
 mod traces;
 mod units;
 mod upper;
 mod windows;
 
-pub use deciding::{Decided, decide};
 pub use modulus::Modulus;
-pub use reference::reference_sums;
-pub use squares::{square_by_bytes, square_sums};
-pub use traces::{has_trace, trace_mask};
-pub use upper::upper_sums;
+pub use reference::Reference;
+pub use squares::Squares;
+pub use upper::Tables;

@@ -74,13 +74,11 @@ fn common_with(n: u32, v: u64) -> Pair
         rest: v,
         rest_by: 1,
     };
-    let mut left: u32 = 128;
-    while left > 0 {
+    for _ in 0..128 {
         if p.rest == 0 {
             return p;
         }
         p = subtracted(n, p);
-        left -= 1;
     }
     p
 }

@@ -2,35 +2,43 @@
 // before it is reduced.
 ghost use Rattle.std.specs.Prelude.{◌≡◌};
 ghost use Rattle.rows.specs.ByteSums.{bytes, byte_sums};
-ghost use Rattle.elements.specs.Reference.{Reference};
+ghost use Rattle.elements.specs.Held.{f_of, n_of};
 ghost use Rattle.elements.specs.Upper.{upper_rows};
 
+use super::reference::Reference;
 use gf2::{LIMIT, multiply_by_x, power};
-use rows::{BYTE_SUMS, byte_sums, sum_by_bytes};
+use rows::{BYTE_SUMS, byte_sums};
 
-// The coordinates of x^n to x^(2n-1), where sums are those of the reference.
-fn upper_rows(sums: &[u64; BYTE_SUMS], f: u64, n: u32) -> [u64; LIMIT]
-    requires { Reference f n sums.now }
-    ensures { result ≡ upper_rows f n sums.now }
+// A reference, and the sums that bytes pick of the coordinates of x^n to x^(2n-1).
+#[derive(Drop)]
+pub struct Tables<'a> {
+    pub reference: Reference<'a>,
+    pub uppers: [u64; BYTE_SUMS],
+    pub ghost of_uppers: { uppers ≡ byte_sums bytes (upper_rows (f_of reference) (n_of reference) reference.sums) },
+}
+
+// The coordinates of x^n to x^(2n-1).
+fn upper_rows(reference: &Reference) -> [u64; LIMIT]
+    ensures { result ≡ upper_rows (f_of reference.now) (n_of reference.now) reference.now.sums }
 {
+    let f = reference.modulus.squares.f;
+    let n = reference.modulus.squares.n;
     let mut rows: [u64; LIMIT] = [0; LIMIT];
-    let count = n as usize;
-    let mut y = f - power(count);
-    let mut i: usize = 0;
-    while i < count {
-        rows[i] = sum_by_bytes(sums, y);
+    let mut y = f - power(n as usize);
+    for i in 0..n as usize {
+        rows[i] = reference.coordinates(y);
         y = multiply_by_x(f, n, y);
-        i += 1;
     }
     rows
 }
 
-// The byte sums of these rows.
-pub fn upper_sums(sums: &[u64; BYTE_SUMS], f: u64, n: u32) -> [u64; BYTE_SUMS]
-    requires { Reference f n sums.now }
-    ensures { result ≡ byte_sums bytes (upper_rows f n sums.now) }
-{
-    let mut uppers: [u64; BYTE_SUMS] = [0; BYTE_SUMS];
-    byte_sums(upper_rows(sums, f, n), &mut uppers);
-    uppers
+impl<'a> Tables<'a> {
+    // The tables of a reference.
+    pub fn new(reference: Reference<'a>) -> Self
+        ensures { result.reference.modulus ≡ reference.entry.modulus }
+    {
+        let mut uppers: [u64; BYTE_SUMS] = [0; BYTE_SUMS];
+        byte_sums(upper_rows(&reference), &mut uppers);
+        Tables { reference, uppers }
+    }
 }

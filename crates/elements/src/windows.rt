@@ -1,6 +1,6 @@
 // Products with one a by windows of four bits: the 16 products of a by numbers below 16 are made once, and each product is then one lookup
 // for each window of the other operand, where gf2's is one turn for each bit.
-ghost use Rattle.std.specs.Prelude.{◌≡◌, ℕ, ◌+◌, ◌^◌, ◌<◌, ◌≤◌};
+ghost use Rattle.std.specs.Prelude.{◌≡◌, ◌+◌, ◌^◌, ◌<◌, ◌≤◌};
 ghost use Rattle.gf2.specs.Poly.{mul_mod, Degree};
 ghost use Rattle.elements.specs.Multiples.{multiples_of};
 ghost use Rattle.elements.specs.Windows.{roomy, four_windows, Unreduced};
@@ -14,8 +14,19 @@ pub struct Wide {
     pub high: u64,
 }
 
-// The products of a by the numbers below 16, as sums of those by x^0 to x^3.
-pub fn multiples(f: u64, n: u32, a: u64) -> [u64; 16]
+// The products modulo f of a by the numbers below 16. n is the degree of f.
+#[derive(Drop)]
+pub struct Multiples {
+    pub f: u64,
+    pub n: u32,
+    pub a: u64,
+    pub products: [u64; 16],
+    pub ghost is_degree: { Degree f n },
+    pub ghost held: { products ≡ multiples_of f n a },
+}
+
+// The products, as sums of those by x^0 to x^3.
+fn products_of(f: u64, n: u32, a: u64) -> [u64; 16]
     requires { (n < 64) × Degree f n × (a < 2 ^ n) }
     ensures { result ≡ multiples_of f n a }
 {
@@ -44,40 +55,57 @@ pub fn multiples(f: u64, n: u32, a: u64) -> [u64; 16]
     ]
 }
 
-// The sum of the multiples that the lowest four windows of w pick, each moved to its place. It is not reduced.
-fn four_windows(multiples: &[u64; 16], w: u64) -> u64
-    ensures { result ≡ four_windows multiples.now w }
+// The sum of the products that the lowest four windows of w pick, each moved to its place. It is not reduced.
+fn four_windows(products: &[u64; 16], w: u64) -> u64
+    ensures { result ≡ four_windows products.now w }
 {
-    multiples[(w % 16) as usize]
-        ^ (multiples[((w >> 4) % 16) as usize] << 4)
-        ^ (multiples[((w >> 8) % 16) as usize] << 8)
-        ^ (multiples[((w >> 12) % 16) as usize] << 12)
+    products[(w % 16) as usize]
+        ^ (products[((w >> 4) % 16) as usize] << 4)
+        ^ (products[((w >> 8) % 16) as usize] << 8)
+        ^ (products[((w >> 12) % 16) as usize] << 12)
 }
 
-// A polynomial of degree below 2n: whatever f and a the multiples are of, it is the product of a and b modulo f. No turn waits for the one before
-// it, as it would if each reduced.
-pub fn wide_product(multiples: &[u64; 16], n: u32, b: u64) -> Wide
-    requires { n ≤ roomy }
-    ensures { (f a : ℕ) → Degree f n → b < 2 ^ n → multiples.now ≡ multiples_of f n a → Unreduced f n a b result.low result.high }
-{
-    let mask = power(n as usize) - 1;
-    let mut low: u64 = 0;
-    let mut high: u64 = 0;
-    let mut k: u32 = 0;
-    while k < n {
-        let part = four_windows(multiples, b >> k);
-        low = low ^ ((part << k) & mask);
-        high = high ^ (part >> (n - k));
-        k += 16;
+impl Multiples {
+    pub fn new(f: u64, n: u32, a: u64) -> Self
+        requires { (n < 64) × Degree f n × (a < 2 ^ n) }
+        ensures { (result.f ≡ f) × (result.n ≡ n) × (result.a ≡ a) }
+    {
+        Multiples {
+            f,
+            n,
+            a,
+            products: products_of(f, n, a),
+        }
     }
-    Wide { low, high }
-}
 
-// The product of v and whatever r the multiples are of, modulo t^n + 1: t^n is 1.
-pub fn turned_product(multiples: &[u64; 16], n: u32, v: u64) -> u64
-    requires { n ≤ roomy }
-    ensures { (r : ℕ) → 1 ≤ n → v < 2 ^ n → multiples.now ≡ multiples_of (2 ^ n + 1) n r → result ≡ mul_mod (2 ^ n + 1) n r v }
-{
-    let wide = wide_product(multiples, n, v);
-    wide.low ^ wide.high
+    // A polynomial of degree below 2n that is the product of a and b modulo f. No turn waits for the one before it, as it would if each reduced.
+    // The count of turns is a constant, so that they are unrolled.
+    pub fn wide_product(&self, b: u64) -> Wide
+        requires { self.now.n ≤ roomy }
+        ensures { b < 2 ^ self.now.n → Unreduced self.now.f self.now.n self.now.a b result.low result.high }
+    {
+        let n = self.n;
+        let mask = power(n as usize) - 1;
+        let mut low: u64 = 0;
+        let mut high: u64 = 0;
+        for j in 0..4u32 {
+            let k = 16 * j;
+            if n <= k {
+                break;
+            }
+            let part = four_windows(&self.products, b >> k);
+            low = low ^ ((part << k) & mask);
+            high = high ^ (part >> (n - k));
+        }
+        Wide { low, high }
+    }
+
+    // The product of a and v modulo t^n + 1, if f is that: t^n is 1.
+    pub fn turned_product(&self, v: u64) -> u64
+        requires { self.now.n ≤ roomy }
+        ensures { self.now.f ≡ 2 ^ self.now.n + 1 → 1 ≤ self.now.n → v < 2 ^ self.now.n → result ≡ mul_mod (2 ^ self.now.n + 1) self.now.n self.now.a v }
+    {
+        let wide = self.wide_product(v);
+        wide.low ^ wide.high
+    }
 }

@@ -15,7 +15,8 @@ use Rattle.field.specs.Answers.{check_answer}
 use Rattle.field.specs.Orders.{in_range, field_passed}
 use Rattle.field.specs.Frobenius.{squared_fixes}
 use Rattle.field.specs.Divided.{undivided-irreducible}
-use Rattle.refusals.specs.declared.answer.Checked.TheVariants as checked
+use Rattle.std.specs.Prelude.{Err}
+use Rattle.refusals.specs.Answers.{passed}
 
 -- ---- the order of 2 and 3
 
@@ -31,14 +32,14 @@ field_accepts f inside = (
 
 -- ---- the answer
 
-pub check_accepts : (f : ℕ) → (check_answer f ≡ checked.Done) ↔ Accepted f
+pub check_accepts : (f : ℕ) → (check_answer f ≡ passed) ↔ Accepted f
 unfolding check_answer
 check_accepts f = (
   λ e.
       let one = first-clear (degree_rule f) (field_order f) (judged_clear (first_of (check_order f)) refl e) in
       (field_accepts f one.0).0 one.1,
   λ s.
-      sym (answer-clear checked.Refused checked.Done (first_passes (degree_rule f) (field_order f) s.in_range ∙ (field_accepts f s.in_range).1 s)),
+      sym (answer-clear Err passed (first_passes (degree_rule f) (field_order f) s.in_range ∙ (field_accepts f s.in_range).1 s)),
 )
 
 -- ---- what an accepted f is

@@ -14,6 +14,7 @@ use Rattle.refusals.specs.Verdicts.{Rule, clear, refuse, first_of}
 use Rattle.refusals.specs.Orders.{first-applies, first_passes, first-none, first-clear}
 use Rattle.field.specs.Accepted.{degree_outside, divided, strays, InRange}
 use Rattle.field.specs.Refusals.{too_large_lem, any_too_large, degree_rule, element_rule, divisor_rule, return_rule, element_order, operand_order, field_order}
+use Rattle.refusals.specs.declared.fault.Fault.TheVariants as faults
 
 -- ---- condition 1
 
@@ -45,7 +46,7 @@ unfolding too_large_lem
 large_enough n a h = le-leb (2 ^ n) a h
 
 module _ (n : ℕ) (values : List ℕ) where
-  pub element_large : any_too_large n values ≡ true → first_of (element_order n values) ≡ refuse 4 0
+  pub element_large : any_too_large n values ≡ true → first_of (element_order n values) ≡ refuse faults.TooLarge 0
   element_large e = first-applies (element_rule n values) [] e
 
   pub element-clear : any_too_large n values ≡ false → first_of (element_order n values) ≡ clear
@@ -68,11 +69,11 @@ element_twice n a = rw (any_twice n a)
 
 -- two numbers, tested one after the other
 module _ (n a b : ℕ) where
-  pub first_large : too_large_lem n a ≡ true → first_of (element_order n (a ∷ b ∷ [])) ≡ refuse 4 0
+  pub first_large : too_large_lem n a ≡ true → first_of (element_order n (a ∷ b ∷ [])) ≡ refuse faults.TooLarge 0
   first_large e = element_large n (a ∷ b ∷ []) (rw e)
 
   module _ (p : too_large_lem n a ≡ false) where
-    pub second_large : too_large_lem n b ≡ true → first_of (element_order n (a ∷ b ∷ [])) ≡ refuse 4 0
+    pub second_large : too_large_lem n b ≡ true → first_of (element_order n (a ∷ b ∷ [])) ≡ refuse faults.TooLarge 0
     second_large e = element_large n (a ∷ b ∷ []) (rw (p, e))
 
     pub none_large : too_large_lem n b ≡ false → first_of (element_order n (a ∷ b ∷ [])) ≡ clear
@@ -97,11 +98,11 @@ operand_twice f a = rw (any_twice (degree f) a)
 -- ---- conditions 2 and 3
 
 module _ (f n : ℕ) (en : degree f ≡ n) where
-  pub field-divided : divided f n ≡ true → first_of (field_order f) ≡ refuse 2 0
+  pub field-divided : divided f n ≡ true → first_of (field_order f) ≡ refuse faults.Divided 0
   field-divided e = first-applies (divisor_rule f) _ (rw en e)
 
   module _ (e : divided f n ≡ false) where
-    pub field-strays : strays f n ≡ true → first_of (field_order f) ≡ refuse 3 0
+    pub field-strays : strays f n ≡ true → first_of (field_order f) ≡ refuse faults.Strays 0
     field-strays s = first_passes (divisor_rule f) _ (rw en e) ∙ first-applies (return_rule f) _ (rw en s)
 
     pub field_passed : strays f n ≡ false → first_of (field_order f) ≡ clear

@@ -12,6 +12,7 @@
 -- Assumes nothing.
 use Rattle.std.specs.Prelude.{Bool, false, ◌||◌, List, [], ◌∷◌, ℕ, ◌^◌, leb}
 use Rattle.gf2.specs.Poly.{degree}
+use Rattle.refusals.specs.declared.fault.Fault.TheVariants as faults
 use Rattle.refusals.specs.Verdicts.{Rule}
 use Rattle.field.specs.Accepted.{degree_outside, divided, strays}
 
@@ -19,15 +20,15 @@ use Rattle.field.specs.Accepted.{degree_outside, divided, strays}
 
 -- "degree of f below 2 or above 46, zero polynomial included"
 abbrev pub degree_rule : (f : ℕ) → Rule
-degree_rule f = record { number = 1; place = 0; applies = degree_outside f }
+degree_rule f = record { fault = faults.DegreeOutside; place = 0; applies = degree_outside f }
 
 -- "some polynomial of degree 1 to n-1 divides f"
 abbrev pub divisor_rule : (f : ℕ) → Rule
-divisor_rule f = record { number = 2; place = 0; applies = divided f (degree f) }
+divisor_rule f = record { fault = faults.Divided; place = 0; applies = divided f (degree f) }
 
 -- "repeated squaring n times does not return x"
 abbrev pub return_rule : (f : ℕ) → Rule
-return_rule f = record { number = 3; place = 0; applies = strays f (degree f) }
+return_rule f = record { fault = faults.Strays; place = 0; applies = strays f (degree f) }
 
 unfoldable pub too_large_lem : (n a : ℕ) → Bool
 too_large_lem n a = leb (2 ^ n) a
@@ -39,7 +40,7 @@ any_too_large n (a ∷ values) = too_large_lem n a || any_too_large n values
 -- "an element, coordinate number or range end is 2^n or more", where the values are no list of the caller's: place 0. Since §6 an element
 -- here is a candidate for a basis: "Normal coordinates, candidates and range ends must still be below 2^n."
 abbrev pub element_rule : (n : ℕ) → List ℕ → Rule
-element_rule n values = record { number = 4; place = 0; applies = any_too_large n values }
+element_rule n values = record { fault = faults.TooLarge; place = 0; applies = any_too_large n values }
 
 -- ---- the orders
 

@@ -6,7 +6,7 @@ mod division;
 mod euclid;
 mod multiplication;
 mod powers;
-mod spread;
+mod spreading;
 mod squaring;
 
 pub use degree::{LIMIT, degree_of};
@@ -14,5 +14,5 @@ pub use division::{element_of, picked};
 pub use euclid::greatest_common;
 pub use multiplication::{multiply, multiply_by_x};
 pub use powers::power;
-pub use spread::spread_table;
+pub use spreading::Spread;
 pub use squaring::square;

@@ -2,29 +2,28 @@
 // operand, so it stands in two words: what the halves of the operand spread to.
 ghost use Rattle.std.specs.Prelude.{◌≡◌, ◌^◌, ◌<◌};
 ghost use Rattle.gf2.specs.Poly.{spread, mul_mod, Element};
-ghost use Rattle.gf2.specs.Spread.{SpreadTable};
 
 use super::division::{raised, remainder};
+use super::spreading::Spread;
 
 // 2^32: what cuts a word into halves.
 const HALF: u64 = 4294967296;
 
 // The spread of half a word, byte by byte from the highest down.
-fn spread_half(table: &[u16; 256], half: u32) -> u64
-    requires { SpreadTable table.now }
+fn spread_half(table: &Spread, half: u32) -> u64
     ensures { result ≡ spread half }
 {
     let mut sum: u64 = 0;
     for byte in half.to_be_bytes() {
-        sum = (sum << 16) ^ u64::from(table[byte as usize]);
+        sum = (sum << 16) ^ table.of_byte(byte);
     }
     sum
 }
 
 // The square of a modulo f, of degree n. The high half's spread is moved up by 64 places modulo f moved up, whose top term leaves the
 // word, so that it can be added to the low half's; the remainder of the sum is then that of the whole.
-pub fn square(table: &[u16; 256], f: u64, n: u32, a: u64) -> u64
-    requires { SpreadTable table.now × Element f n a }
+pub fn square(table: &Spread, f: u64, n: u32, a: u64) -> u64
+    requires { Element f n a }
     ensures { result ≡ mul_mod f n a a }
 {
     let low = spread_half(table, (a % HALF) as u32);

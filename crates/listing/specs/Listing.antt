@@ -5,17 +5,18 @@ use Rattle.std.proofs.Common.{sym, ap, mul-le-mul_left, arith, length-append}
 use Rattle.std.proofs.Math.Seq.{take-append_seam}
 use Rattle.io.specs.Counts.{IsPrefixLen}
 use Rattle.gf2.specs.Limit.{limit}
+use Rattle.refusals.specs.Verdicts.{fault_number}
 use Rattle.refusals.specs.declared.answer.Refusal.{Refusal}
 use Rattle.normal.specs.Grades.{grade_number}
 use Rattle.sheet.specs.Record.{record_count}
 use Rattle.sheet.specs.Answers.{read_answer}
 use Rattle.sheet.specs.declared.answer.Summary.{Summary}
-use Rattle.sheet.specs.declared.answer.Issued.TheVariants as issued
 use Rattle.causes.specs.Causes.{why_answer}
 use Rattle.causes.specs.declared.answer.Cause.{Cause}
 use Rattle.listing.specs.Text.{row_lines, last_line, refused_line, cause_line, listing_by, listing_of}
 use Rattle.listing.specs.Room.{row_room, last_room, refused_room, cause_room, listing_room}
 use Rattle.listing.specs.Putting.{Put, put_then, put_front}
+use Rattle.std.specs.Prelude.{Ok, Err}
 
 -- ---- each listing fits into its room
 
@@ -38,14 +39,14 @@ front-counted start bytes text size l =
     let rest : List ℕ = drop (length bytes) start in
     (l.0, (l.1, rw (l.0, l.1) (omega (arith, length-append bytes rest), sym (ap length (take-append_seam bytes rest)))))
 
-pub listed-done : (sheet : List ℕ) (s : Summary) {start b c : List ℕ} {m n : ℕ} → read_answer sheet ≡ issued.Done s
+pub listed-done : (sheet : List ℕ) (s : Summary) {start b c : List ℕ} {m n : ℕ} → read_answer sheet ≡ Ok s
     → Put start 0 (row_lines sheet (record_count sheet)) b m → Put b m (last_line s.complexity (grade_number s.grade)) c n → Listed start sheet c n
 unfolding listing_of listing_by
 listed-done sheet s {start} {b} {c} {m} {n} e p q =
     rw e (front-counted start (row_lines sheet (record_count sheet) ++ last_line s.complexity (grade_number s.grade)) c n (put_front (put_then p q)))
 
-pub listed-refused : (sheet : List ℕ) (r : Refusal) {start b c : List ℕ} {m n : ℕ} → read_answer sheet ≡ issued.Refused r
-    → Put start 0 (refused_line r.number r.place) b m → {w : Cause} → w ≡ why_answer sheet → Put b m (cause_line w) c n → Listed start sheet c n
+pub listed-refused : (sheet : List ℕ) (r : Refusal) {start b c : List ℕ} {m n : ℕ} → read_answer sheet ≡ Err r
+    → Put start 0 (refused_line (fault_number r.fault) r.place) b m → {w : Cause} → w ≡ why_answer sheet → Put b m (cause_line w) c n → Listed start sheet c n
 unfolding listing_of listing_by
 listed-refused sheet r {start} {b} {c} {m} {n} e p {w} k q =
-    rw e (front-counted start (refused_line r.number r.place ++ cause_line (why_answer sheet)) c n (put_front (put_then p (rw k at q))))
+    rw e (front-counted start (refused_line (fault_number r.fault) r.place ++ cause_line (why_answer sheet)) c n (put_front (put_then p (rw k at q))))

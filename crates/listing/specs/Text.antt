@@ -15,14 +15,16 @@ use Rattle.io.specs.Digits.{last_digits}
 use Rattle.normal.specs.Grades.{grade_number}
 use Rattle.sheet.specs.Record.{record_count, conjugate_in, inverse_in, table_in}
 use Rattle.sheet.specs.Answers.{read_answer}
-use Rattle.sheet.specs.declared.answer.Issued.{Issued}
-use Rattle.sheet.specs.declared.answer.Issued.TheVariants as issued
 use Rattle.causes.specs.Causes.{why_answer}
 use Rattle.causes.specs.declared.answer.Field.{Field}
 use Rattle.causes.specs.declared.answer.Field.TheVariants as field
 use Rattle.causes.specs.declared.answer.Difference.{Difference}
 use Rattle.causes.specs.declared.answer.Cause.{Cause}
 use Rattle.causes.specs.declared.answer.Cause.TheVariants as cause
+use Rattle.std.specs.Prelude.{Result, Ok, Err}
+use Rattle.sheet.specs.declared.answer.Summary.{Summary}
+use Rattle.refusals.specs.Verdicts.{fault_number}
+use Rattle.refusals.specs.declared.answer.Refusal.{Refusal}
 
 -- ---- marks and words
 
@@ -107,9 +109,9 @@ cause_line (cause.Differs d) = difference_line_lem d
 -- ---- the listing
 
 -- by what reading answers. The cause is that of the same refusal (`why_as_reading` in `promises`)
-unfoldable pub listing_by : Issued → (sheet : List ℕ) → List ℕ
-listing_by (issued.Done s) sheet = row_lines sheet (record_count sheet) ++ last_line s.complexity (grade_number s.grade)
-listing_by (issued.Refused r) sheet = refused_line r.number r.place ++ cause_line (why_answer sheet)
+unfoldable pub listing_by : Result Summary Refusal → (sheet : List ℕ) → List ℕ
+listing_by (Ok s) sheet = row_lines sheet (record_count sheet) ++ last_line s.complexity (grade_number s.grade)
+listing_by (Err r) sheet = refused_line (fault_number r.fault) r.place ++ cause_line (why_answer sheet)
 
 unfoldable pub listing_of : (sheet : List ℕ) → List ℕ
 listing_of sheet = listing_by (read_answer sheet) sheet

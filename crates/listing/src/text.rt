@@ -7,7 +7,7 @@ use super::cause::put_cause;
 use super::lines::{LAST_ROOM, ROW_ROOM, put_last, put_refused, put_rows};
 use causes::why;
 use gf2::LIMIT;
-use sheet::{Issued, RECORD, read};
+use sheet::{RECORD, read};
 
 // A text that every listing fits into: as many rows as a sheet can have, and the last line. The specs have it as `listing_room`.
 pub const LISTING_ROOM: usize = ROW_ROOM * LIMIT + LAST_ROOM;
@@ -20,11 +20,11 @@ pub fn listing(sheet: &[u8], text: &mut [u8; LISTING_ROOM]) -> usize
     ensures counted { IsPrefixLen result text.new }
 {
     match read(sheet) {
-        Issued::Refused(refusal) => {
-            let at = put_refused(text, refusal.number, refusal.place);
+        Err(refusal) => {
+            let at = put_refused(text, refusal.fault.number(), refusal.place);
             put_cause(text, at, why(sheet))
         }
-        Issued::Done(summary) => {
+        Ok(summary) => {
             let grade = summary.grade;
             let at = put_rows(text, sheet, sheet.len() / RECORD);
             put_last(text, at, summary.complexity, grade)

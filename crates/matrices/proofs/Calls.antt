@@ -12,7 +12,6 @@ use Rattle.refusals.specs.Verdicts.{clear, first_of}
 use Rattle.refusals.specs.Orders.{first-none, part-clear}
 use Rattle.refusals.specs.Answers.{refusal_at, checked_of}
 use Rattle.refusals.specs.declared.answer.Refusal.{Refusal}
-use Rattle.refusals.specs.declared.answer.Checked.{Checked}
 use Rattle.field.specs.Accepted.{Operand, degree_outside}
 use Rattle.field.specs.Refusals.{field_order}
 use Rattle.normal.specs.Basis.{built_of}
@@ -30,8 +29,6 @@ use Rattle.sheet.proofs.Issuing.{clear-based}
 use Rattle.sheet.proofs.Held.{table-rows}
 use Rattle.sheet.specs.Sheets.{Based}
 use Rattle.sheet.specs.declared.answer.Summary.{Summary}
-use Rattle.sheet.specs.declared.answer.Issued.{Issued}
-use Rattle.sheet.specs.declared.answer.Issued.TheVariants as issued
 use Rattle.matrices.specs.Matrices.{text_bytes, matrices_text, text_size}
 use Rattle.matrices.specs.Orders.{match_rule, write_text_order, match_order}
 use Rattle.matrices.specs.Answers.{text_in, write_text_answer, write_text_report, written_text}
@@ -40,6 +37,9 @@ use Rattle.matrices.proofs.Turned.{turned_text}
 use Rattle.matrices.proofs.Judging.{write_done_exactly, write_room_exactly}
 use Rattle.matrices.specs.Exact.{written_kept}
 use Rattle.matrices.proofs.Exact.{matrices-size, written_front}
+use Rattle.std.specs.Prelude.{Result, Ok, Err}
+use Rattle.refusals.specs.Answers.{Checked}
+use Rattle.refusals.specs.declared.fault.Fault.TheVariants as faults
 
 -- ---- reading
 
@@ -66,23 +66,23 @@ built_verdict f n a o accepts {r} er flag rows text twice {c} ec =
 
 module _ (sheet text : List ℕ) where
   -- the clauses of the promise, from the answer and the text
-  promised : {r : Issued} {last : List ℕ} → r ≡ write_text_answer sheet (length text) → last ≡ written_text sheet text
+  promised : {r : Result Summary Refusal} {last : List ℕ} → r ≡ write_text_answer sheet (length text) → last ≡ written_text sheet text
       → (r ≡ write_text_answer sheet (length text)) × ((issued_report r ≡ write_text_report sheet (length text)) × (last ≡ written_text sheet text))
   unfolding write_text_answer write_text_report
   promised er el = let p = issued_promised (first_of (write_text_order sheet (length text))) (summary_in sheet) er in (p.0, (p.1, el))
 
-  pub write_refused : {r : Refusal} → write_text_answer sheet (length text) ≡ issued.Refused r
-      → (issued.Refused r ≡ write_text_answer sheet (length text)) × ((issued_report (issued.Refused r) ≡ write_text_report sheet (length text)) × (text ≡ written_text sheet text))
+  pub write_refused : {r : Refusal} → write_text_answer sheet (length text) ≡ Err r
+      → (Err r ≡ write_text_answer sheet (length text)) × ((issued_report (Err r) ≡ write_text_report sheet (length text)) × (text ≡ written_text sheet text))
   write_refused {r} e = promised (sym e) (sym (written_kept sheet text r e))
 
-  module _ (s : Summary) (e : read_answer sheet ≡ issued.Done s) where
-    pub write_short : length text < text_size (record_count sheet) → write_text_answer sheet (length text) ≡ issued.Refused (refusal_at 6 0)
-    write_short h = (write_room_exactly sheet (length text)).1 (e ∙ ap issued.Done (sym (answered_sheet sheet s e).1), h)
+  module _ (s : Summary) (e : read_answer sheet ≡ Ok s) where
+    pub write_short : length text < text_size (record_count sheet) → write_text_answer sheet (length text) ≡ Err (refusal_at faults.NoRoom 0)
+    write_short h = (write_room_exactly sheet (length text)).1 (e ∙ ap Ok (sym (answered_sheet sheet s e).1), h)
 
     -- the text that was put is made of the table's rows twice over
     pub write_done : text_size (record_count sheet) ≤ length text → (table rows last : List ℕ) → table ≡ padded (table_rows_in sheet) → Twice (record_count sheet) table rows
         → last ≡ pasted text 0 (text_bytes (record_count sheet) (turned (record_count sheet) rows))
-        → (issued.Done s ≡ write_text_answer sheet (length text)) × ((issued_report (issued.Done s) ≡ write_text_report sheet (length text)) × (last ≡ written_text sheet text))
+        → (Ok s ≡ write_text_answer sheet (length text)) × ((issued_report (Ok s) ≡ write_text_report sheet (length text)) × (last ≡ written_text sheet text))
     unfolding pasted
     write_done h table rows last et twice el =
         let f = polynomial_in sheet in

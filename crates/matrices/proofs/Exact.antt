@@ -16,7 +16,6 @@ use Rattle.sheet.proofs.Held.{held-count, held-polynomial, held-element}
 use Rattle.sheet.proofs.IssuedLaws.{answered_based, build-buffer, build-sheet, read_answered, answered_sheet}
 use Rattle.sheet.specs.Sheets.{Based, SheetOf}
 use Rattle.sheet.specs.declared.answer.Summary.{Summary}
-use Rattle.sheet.specs.declared.answer.Issued.TheVariants as issued
 use Rattle.matrices.specs.Matrices.{matrix_entry, matrices_text, text_size}
 use Rattle.matrices.specs.Orders.{count_of, write_text_order, read_text_order}
 use Rattle.matrices.specs.Answers.{text_in, write_text_answer, written_text, read_text_answer}
@@ -26,6 +25,7 @@ use Rattle.matrices.proofs.Counting.{ones_written}
 use Rattle.matrices.specs.Judging.{text_right, text_done_exactly}
 use Rattle.matrices.proofs.Judging.{write_as_read, write_done_exactly}
 use Rattle.matrices.specs.Exact.{GivenFor, built_sheet, text_given}
+use Rattle.std.specs.Prelude.{Ok}
 
 -- ---- the lent text
 
@@ -33,7 +33,7 @@ pub matrices-size : (f n a : ℕ) → length (matrices_text f n a) ≡ text_size
 unfolding matrices_text
 matrices-size f n a = text_length n (matrix_entry f n a)
 
-module _ (sheet buffer : List ℕ) (t : Summary) (e : write_text_answer sheet (length buffer) ≡ issued.Done t) where
+module _ (sheet buffer : List ℕ) (t : Summary) (e : write_text_answer sheet (length buffer) ≡ Ok t) where
   whole : length (text_in sheet) ≡ text_size (record_count sheet)
   whole = matrices-size (polynomial_in sheet) (record_count sheet) (conjugate_in sheet 0)
 
@@ -70,7 +70,7 @@ module _ (f a : ℕ) (sheet : List ℕ) (s : SheetOf f (degree f) a sheet) (buff
   sheet_text = rw (held-polynomial f (degree f) a sheet s, held-count f (degree f) a sheet s, held-element f (degree f) a sheet s) refl
 
   -- on the sheet of f and a writing answers what build answers
-  pub sheet_writes : write_text_answer sheet (length buffer) ≡ issued.Done (summary_of f (degree f) a)
+  pub sheet_writes : write_text_answer sheet (length buffer) ≡ Ok (summary_of f (degree f) a)
   sheet_writes =
       write_as_read sheet (length buffer) (rw (held-count f (degree f) a sheet s) fits) ∙ read_answered f (degree f) a sheet s
 
@@ -78,7 +78,7 @@ module _ (f a : ℕ) (sheet : List ℕ) (s : SheetOf f (degree f) a sheet) (buff
   sheet_gives = given_text sheet buffer (summary_of f (degree f) a) sheet_writes ∙ sheet_text
 
 module _ (f a : ℕ) (text : List ℕ) (t : Summary) where
-  accepted-given : read_text_answer f a text ≡ issued.Done t → GivenFor f a text t
+  accepted-given : read_text_answer f a text ≡ Ok t → GivenFor f a text t
   unfolding read_text_answer
   accepted-given e =
       let r = text_right f a text (done-clear (first_of (read_text_order f a text)) (summary_of f (degree f) a) t e) in
@@ -94,7 +94,7 @@ module _ (f a : ℕ) (text : List ℕ) (t : Summary) where
         front = r.1 ∙ sym (sheet_gives f a sheet s text fits);
       }
 
-  given-accepted : GivenFor f a text t → read_text_answer f a text ≡ issued.Done t
+  given-accepted : GivenFor f a text t → read_text_answer f a text ≡ Ok t
   given-accepted g =
       let x = answered_sheet g.sheet t ((write_done_exactly g.sheet (length g.buffer) t).0 g.answer).0 in
       let s : SheetOf f (record_count g.sheet) a g.sheet = rw (g.polynomial, g.element) at x.0 in
@@ -102,22 +102,22 @@ module _ (f a : ℕ) (text : List ℕ) (t : Summary) where
       let right : text ≡ matrices_text f (record_count g.sheet) a =
       g.front ∙ given_text g.sheet g.buffer t g.answer ∙ ap₂ (λ (u v : ℕ). matrices_text u (record_count g.sheet) v) g.polynomial g.element in
       let same : summary_of f (record_count g.sheet) a ≡ t = rw (g.polynomial, g.element) at x.1 in
-      (text_done_exactly f a text).1 (rw d s.based, rw d right) ∙ ap issued.Done (rw d same)
+      (text_done_exactly f a text).1 (rw d s.based, rw d right) ∙ ap Ok (rw d same)
 
-  pub reading_accepts : (read_text_answer f a text ≡ issued.Done t) ↔ GivenFor f a text t
+  pub reading_accepts : (read_text_answer f a text ≡ Ok t) ↔ GivenFor f a text t
   reading_accepts = (accepted-given, given-accepted)
 
 -- ---- over the sheet that build wrote
 
-module _ (f a : ℕ) (buffer : List ℕ) (t : Summary) (built : build_answer f a (length buffer) ≡ issued.Done t) where
+module _ (f a : ℕ) (buffer : List ℕ) (t : Summary) (built : build_answer f a (length buffer) ≡ Ok t) where
   based : Based f (degree f) a × (record_size * degree f ≤ length buffer) × (summary_of f (degree f) a ≡ t)
   based = answered_based f a (length buffer) t built
 
   -- a text is accepted, with the answer of build, exactly if it is the right one
-  accepted-right : (text : List ℕ) → (read_text_answer f a text ≡ issued.Done t) ↔ (text ≡ matrices_text f (degree f) a)
+  accepted-right : (text : List ℕ) → (read_text_answer f a text ≡ Ok t) ↔ (text ≡ matrices_text f (degree f) a)
   accepted-right text = (
-    λ e. ((text_done_exactly f a text).0 (e ∙ ap issued.Done (sym based.2))).1,
-    λ e. (text_done_exactly f a text).1 (based.0, e) ∙ ap issued.Done based.2,
+    λ e. ((text_done_exactly f a text).0 (e ∙ ap Ok (sym based.2))).1,
+    λ e. (text_done_exactly f a text).1 (based.0, e) ∙ ap Ok based.2,
   )
 
   module _ (lent : List ℕ) (fits : text_size (degree f) ≤ length lent) where
@@ -125,11 +125,11 @@ module _ (f a : ℕ) (buffer : List ℕ) (t : Summary) (built : build_answer f a
     sheet_of = build-sheet f a based.0 buffer based.1
 
     -- writing from it is done, and answers as build did
-    pub write_built : write_text_answer (built_sheet f a buffer) (length lent) ≡ issued.Done t
-    write_built = sheet_writes f a (built_sheet f a buffer) sheet_of lent fits ∙ ap issued.Done based.2
+    pub write_built : write_text_answer (built_sheet f a buffer) (length lent) ≡ Ok t
+    write_built = sheet_writes f a (built_sheet f a buffer) sheet_of lent fits ∙ ap Ok based.2
 
     -- reading is done, and answers as build did, exactly on what writing gave
-    pub reading_built : (text : List ℕ) → (read_text_answer f a text ≡ issued.Done t) ↔ (text ≡ text_given (built_sheet f a buffer) lent)
+    pub reading_built : (text : List ℕ) → (read_text_answer f a text ≡ Ok t) ↔ (text ≡ text_given (built_sheet f a buffer) lent)
     reading_built text =
         let e = sheet_gives f a (built_sheet f a buffer) sheet_of lent fits in
         (λ p. (accepted-right text).0 p ∙ sym e, λ p. (accepted-right text).1 (p ∙ e))
@@ -156,5 +156,5 @@ module _ (f a : ℕ) (buffer : List ℕ) (t : Summary) (built : build_answer f a
         ∙ ap (λ (l : List ℕ). text_in sheet ++ l) (drop_of_length-le lent {i = n} size) ∙ append-nil (text_in sheet)
         ∙ sheet_text f a sheet sheet-alone lent room
 
-    pub reading_whole : (text : List ℕ) → (read_text_answer f a text ≡ issued.Done t) ↔ (text ≡ written_text (built_buffer f a buffer) lent)
+    pub reading_whole : (text : List ℕ) → (read_text_answer f a text ≡ Ok t) ↔ (text ≡ written_text (built_buffer f a buffer) lent)
     reading_whole text = (λ p. (accepted-right text).0 p ∙ sym text_alone, λ p. (accepted-right text).1 (p ∙ text_alone))

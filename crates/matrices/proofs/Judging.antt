@@ -17,11 +17,13 @@ use Rattle.sheet.specs.Orders.{record_rules, differ_rules, shape_order, rebuilt_
 use Rattle.sheet.specs.Answers.{issued_of, summary_in, read_answer}
 use Rattle.sheet.specs.Answered.{done-clear}
 use Rattle.sheet.specs.declared.answer.Summary.{Summary}
-use Rattle.sheet.specs.declared.answer.Issued.TheVariants as issued
 use Rattle.matrices.specs.Matrices.{text_size}
 use Rattle.matrices.specs.Orders.{text_room_rule, write_text_order}
 use Rattle.matrices.specs.Answers.{write_text_answer}
 use Rattle.matrices.specs.Judging.{not_refused}
+use Rattle.std.specs.Prelude.{Ok, Err}
+use Rattle.refusals.specs.declared.fault.Fault.TheVariants as faults
+use Rattle.refusals.specs.declared.fault.Fault.{Fault}
 
 -- ---- writing, by its verdict
 
@@ -47,13 +49,13 @@ unfolding differ_rules
 differ_not_six sheet rebuilt i zero = tt
 differ_not_six sheet rebuilt i (suc k) = (λ e. omega arith, differ_not_six sheet rebuilt (i + 1) k)
 
-read_not_six : (sheet : List ℕ) (p : ℕ) → first_of (read_order sheet) ≡ refuse 6 p → ⊥
+read_not_six : (sheet : List ℕ) (p : ℕ) → first_of (read_order sheet) ≡ refuse faults.NoRoom p → ⊥
 read_not_six sheet p e =
     let n : ℕ = record_count sheet in
     every_first NotSix (read_order sheet) 6 p
     (every_append NotSix (shape_order sheet) (rebuild_order sheet) (λ e. omega arith, records_not_six sheet 0 n)
     (λ e. omega arith, (λ e. omega arith, (λ e. omega arith, differ_not_six sheet (rebuilt_from sheet) 0 n))))
-    (first_found (read_order sheet) 6 p e) refl
+    (first_found (read_order sheet) faults.NoRoom p e) refl
 
 module _ (sheet : List ℕ) (room : ℕ) where
   abbrev size : ℕ
@@ -67,16 +69,16 @@ module _ (sheet : List ℕ) (room : ℕ) where
       (last-passes (read_order sheet) (text_room_rule (record_count sheet) room) (le-ltb room size fits))
 
   -- "writing has those of reading a sheet", whatever the room
-  pub write_refused_as_read : (r : Refusal) → read_answer sheet ≡ issued.Refused r → write_text_answer sheet room ≡ issued.Refused r
+  pub write_refused_as_read : (r : Refusal) → read_answer sheet ≡ Err r → write_text_answer sheet room ≡ Err r
   unfolding write_text_answer read_answer answer_of
   write_refused_as_read r e = go (first_of (read_order sheet)) refl
     where
-      go : (v : Verdict) → first_of (read_order sheet) ≡ v → write_text_answer sheet room ≡ issued.Refused r
+      go : (v : Verdict) → first_of (read_order sheet) ≡ v → write_text_answer sheet room ≡ Err r
       go clear c = absurd (not_refused (summary_in sheet) r (rw c at e))
       go (refuse k p) c = rw (part-refused (read_order sheet) (text_room_rule (record_count sheet) room ∷ []) k p c) (rw c at e)
 
   -- done exactly if reading the sheet is and there is room, and with the same answer
-  pub write_done_exactly : (t : Summary) → (write_text_answer sheet room ≡ issued.Done t) ↔ ((read_answer sheet ≡ issued.Done t) × (text_size (record_count sheet) ≤ room))
+  pub write_done_exactly : (t : Summary) → (write_text_answer sheet room ≡ Ok t) ↔ ((read_answer sheet ≡ Ok t) × (text_size (record_count sheet) ≤ room))
   unfolding write_text_answer
   write_done_exactly t = (
     λ e.
@@ -87,26 +89,26 @@ module _ (sheet : List ℕ) (room : ℕ) where
   )
 
   -- 6 exactly if reading accepts the sheet and the room is less
-  pub write_room_exactly : (write_text_answer sheet room ≡ issued.Refused (refusal_at 6 0))
-      ↔ ((read_answer sheet ≡ issued.Done (summary_in sheet)) × (room < text_size (record_count sheet)))
+  pub write_room_exactly : (write_text_answer sheet room ≡ Err (refusal_at faults.NoRoom 0))
+      ↔ ((read_answer sheet ≡ Ok (summary_in sheet)) × (room < text_size (record_count sheet)))
   unfolding write_text_answer read_answer answer_of
   write_room_exactly = (λ e. few e (first_of (read_order sheet)) refl, λ x. short x.1 (done-clear (first_of (read_order sheet)) (summary_in sheet) (summary_in sheet) x.0))
     where
-      short : room < text_size (record_count sheet) → first_of (read_order sheet) ≡ clear → write_text_answer sheet room ≡ issued.Refused (refusal_at 6 0)
+      short : room < text_size (record_count sheet) → first_of (read_order sheet) ≡ clear → write_text_answer sheet room ≡ Err (refusal_at faults.NoRoom 0)
       short h c =
           rw (part-clear (read_order sheet) (text_room_rule (record_count sheet) room ∷ []) c, first-applies (text_room_rule (record_count sheet) room) [] (lt-ltb room (text_size (record_count sheet)) h)) refl
 
-      few : write_text_answer sheet room ≡ issued.Refused (refusal_at 6 0) → (v : Verdict) → first_of (read_order sheet) ≡ v
-          → (read_answer sheet ≡ issued.Done (summary_in sheet)) × (room < text_size (record_count sheet))
+      few : write_text_answer sheet room ≡ Err (refusal_at faults.NoRoom 0) → (v : Verdict) → first_of (read_order sheet) ≡ v
+          → (read_answer sheet ≡ Ok (summary_in sheet)) × (room < text_size (record_count sheet))
       few e clear c = (
         rw c refl,
         ⊎_elim
             (λ (h : room < text_size (record_count sheet)). h)
             (λ (h : text_size (record_count sheet) ≤ room).
-            absurd (not_refused (summary_in sheet) (refusal_at 6 0) (rw (last-passes (read_order sheet) (text_room_rule (record_count sheet) room) (le-ltb room (text_size (record_count sheet)) h), c) at e)))
+            absurd (not_refused (summary_in sheet) (refusal_at faults.NoRoom 0) (rw (last-passes (read_order sheet) (text_room_rule (record_count sheet) room) (le-ltb room (text_size (record_count sheet)) h), c) at e)))
             (order room (text_size (record_count sheet))),
       )
       few e (refuse k p) c =
-          let q : issued.Refused (refusal_at k p) ≡ issued.Refused (refusal_at 6 0) = rw (part-refused (read_order sheet) (text_room_rule (record_count sheet) room ∷ []) k p c) at e in
-          let y : refusal_at k p ≡ refusal_at 6 0 = cc in
-          absurd (read_not_six sheet p (c ∙ ap (λ (m : ℕ). refuse m p) (ap (λ (r : Refusal). r.number) y)))
+          let q : Err (refusal_at k p) ≡ Err (refusal_at faults.NoRoom 0) = rw (part-refused (read_order sheet) (text_room_rule (record_count sheet) room ∷ []) k p c) at e in
+          let y : refusal_at k p ≡ refusal_at faults.NoRoom 0 = cc in
+          absurd (read_not_six sheet p (c ∙ ap (λ (m : Fault). refuse m p) (ap (λ (r : Refusal). r.fault) y)))

@@ -19,9 +19,10 @@ use Rattle.matrices.specs.Blocks.{in_order-suc}
 use Rattle.matrices.proofs.Blocks.{text_length}
 use Rattle.matrices.specs.CommonLines.{common_itself, common-left, lines-all, lines-most}
 use Rattle.matrices.proofs.Counting.{text_ends}
+use Rattle.refusals.specs.declared.fault.Fault.TheVariants as faults
 
 -- 14, for any two texts that differ
-pub match_differs : (text right : List ℕ) → (text ≡ right → ⊥) → first_of (match_rule text right ∷ []) ≡ refuse 14 (common_lines text right)
+pub match_differs : (text right : List ℕ) → (text ≡ right → ⊥) → first_of (match_rule text right ∷ []) ≡ refuse faults.OtherText (common_lines text right)
 match_differs text right u =
     first-applies (match_rule text right) [] (rw (not_true_false (same text right) (λ e. u (same_equal text right e))))
 
@@ -47,12 +48,12 @@ module _ (n : ℕ) (g : ℕ → ℕ → ℕ → ℕ) (text : List ℕ) where
   -- ---- the texts differ
 
   module _ (lines : ℕ) (e : lines ≡ common_lines text (text_bytes n g)) where
-    pub match_fewer : lines < line_count n → first_of (match_rule text (text_bytes n g) ∷ []) ≡ refuse 14 lines
+    pub match_fewer : lines < line_count n → first_of (match_rule text (text_bytes n g) ∷ []) ≡ refuse faults.OtherText lines
     match_fewer h =
-        match_differs text right (λ p. let s : lines ≡ line_count n = e ∙ ap (λ (l : List ℕ). common_lines l right) p ∙ lines_itself in omega (arith, s, h)) ∙ ap (refuse 14) (sym e)
+        match_differs text right (λ p. let s : lines ≡ line_count n = e ∙ ap (λ (l : List ℕ). common_lines l right) p ∙ lines_itself in omega (arith, s, h)) ∙ ap (refuse faults.OtherText) (sym e)
 
-    pub match_other-length : (length text ≡ text_size n → ⊥) → first_of (match_rule text (text_bytes n g) ∷ []) ≡ refuse 14 lines
-    match_other-length u = match_differs text right (λ p. u (ap (λ (l : List ℕ). length l) p ∙ text_length n g)) ∙ ap (refuse 14) (sym e)
+    pub match_other-length : (length text ≡ text_size n → ⊥) → first_of (match_rule text (text_bytes n g) ∷ []) ≡ refuse faults.OtherText lines
+    match_other-length u = match_differs text right (λ p. u (ap (λ (l : List ℕ). length l) p ∙ text_length n g)) ∙ ap (refuse faults.OtherText) (sym e)
 
 -- ---- or they are the same
 

@@ -18,7 +18,6 @@ use Rattle.refusals.specs.declared.answer.Refusal.{Refusal}
 use Rattle.sheet.specs.Answers.{issued_of, summary_of}
 use Rattle.sheet.proofs.Issuing.{based-two}
 use Rattle.sheet.specs.Sheets.{Based}
-use Rattle.sheet.specs.declared.answer.Issued.TheVariants as issued
 use Rattle.matrices.specs.Matrices.{matrix_entry, line_end, matrices_text, matrix_size, text_size, line_count}
 use Rattle.matrices.specs.Orders.{count_of, common, common_lines, match_rule}
 use Rattle.matrices.specs.Answers.{read_text_answer}
@@ -28,6 +27,9 @@ use Rattle.matrices.proofs.Matching.{match_differs}
 use Rattle.matrices.specs.Judging.{based_order_lem, based-listed, order_based, based_order, text_done_exactly, not_refused}
 use Rattle.matrices.proofs.Exact.{matrices-size}
 use Rattle.matrices.specs.Places.{lines_after, place_beginning}
+use Rattle.std.specs.Prelude.{Err}
+use Rattle.refusals.specs.declared.fault.Fault.TheVariants as faults
+use Rattle.refusals.specs.declared.fault.Fault.{Fault}
 
 -- ---- the place
 
@@ -62,15 +64,15 @@ module _ (f a : ℕ) (text : List ℕ) where
   right = matrices_text f (degree f) a
 
   pub text_differs : Based f (degree f) a → (text ≡ matrices_text f (degree f) a → ⊥)
-      → read_text_answer f a text ≡ issued.Refused (refusal_at 14 (count_of line_end (common text (matrices_text f (degree f) a))))
+      → read_text_answer f a text ≡ Err (refusal_at faults.OtherText (count_of line_end (common text (matrices_text f (degree f) a))))
   unfolding read_text_answer answer_of common_lines
   text_differs b h =
       ap (λ (v : Verdict). issued_of v (summary_of f (degree f) a))
       (part-clear (based_order_lem f a) (match_rule text right ∷ []) (based_order f a b) ∙ match_differs text right h)
 
   -- none of the conditions before has that number
-  not_fourteen : (p : ℕ) → first_of (based_order_lem f a) ≡ refuse 14 p → ⊥
-  not_fourteen p e = among (every_first (AtZero (1 ∷ 4 ∷ 2 ∷ 3 ∷ 5 ∷ [])) (based_order_lem f a) 14 p (based-listed f a) (first_found (based_order_lem f a) 14 p e))
+  not_fourteen : (p : ℕ) → first_of (based_order_lem f a) ≡ refuse faults.OtherText p → ⊥
+  not_fourteen p e = among (every_first (AtZero (1 ∷ 4 ∷ 2 ∷ 3 ∷ 5 ∷ [])) (based_order_lem f a) 14 p (based-listed f a) (first_found (based_order_lem f a) faults.OtherText p e))
     where
       among : AtZero (1 ∷ 4 ∷ 2 ∷ 3 ∷ 5 ∷ []) 14 p → ⊥
       among (inl e, z) = omega arith
@@ -81,37 +83,37 @@ module _ (f a : ℕ) (text : List ℕ) where
       among (inr (inr (inr (inr (inr e)))), z) = e
 
   pub text_differs_exactly : (p : ℕ)
-      → (read_text_answer f a text ≡ issued.Refused (refusal_at 14 p))
+      → (read_text_answer f a text ≡ Err (refusal_at faults.OtherText p))
       ↔ (Based f (degree f) a × (text ≡ matrices_text f (degree f) a → ⊥) × (p ≡ count_of line_end (common text (matrices_text f (degree f) a))))
   unfolding read_text_answer answer_of
-  text_differs_exactly p = (λ e. parts e (first_of (based_order_lem f a)) refl, λ x. text_differs x.0 x.1 ∙ ap (λ (m : ℕ). issued.Refused (refusal_at 14 m)) (sym x.2))
+  text_differs_exactly p = (λ e. parts e (first_of (based_order_lem f a)) refl, λ x. text_differs x.0 x.1 ∙ ap (λ (m : ℕ). Err (refusal_at faults.OtherText m)) (sym x.2))
     where
-      parts : read_text_answer f a text ≡ issued.Refused (refusal_at 14 p) → (v : Verdict) → first_of (based_order_lem f a) ≡ v
+      parts : read_text_answer f a text ≡ Err (refusal_at faults.OtherText p) → (v : Verdict) → first_of (based_order_lem f a) ≡ v
           → Based f (degree f) a × (text ≡ matrices_text f (degree f) a → ⊥) × (p ≡ count_of line_end (common text (matrices_text f (degree f) a)))
       parts e clear c =
           let b : Based f (degree f) a = order_based f a c in
           let other : text ≡ matrices_text f (degree f) a → ⊥ =
-          λ r. not_refused (summary_of f (degree f) a) (refusal_at 14 p) (sym ((text_done_exactly f a text).1 (b, r)) ∙ e) in
+          λ r. not_refused (summary_of f (degree f) a) (refusal_at faults.OtherText p) (sym ((text_done_exactly f a text).1 (b, r)) ∙ e) in
           let lines : ℕ = count_of line_end (common text (matrices_text f (degree f) a)) in
-          let q : issued.Refused (refusal_at 14 p) ≡ issued.Refused (refusal_at 14 lines) = sym e ∙ text_differs b other in
-          let y : refusal_at 14 p ≡ refusal_at 14 lines = cc in
+          let q : Err (refusal_at faults.OtherText p) ≡ Err (refusal_at faults.OtherText lines) = sym e ∙ text_differs b other in
+          let y : refusal_at faults.OtherText p ≡ refusal_at faults.OtherText lines = cc in
           (b, other, ap (λ (r : Refusal). r.place) y)
       parts e (refuse k q) c =
-          let x : issued.Refused (refusal_at k q) ≡ issued.Refused (refusal_at 14 p) =
+          let x : Err (refusal_at k q) ≡ Err (refusal_at faults.OtherText p) =
           rw (part-refused (based_order_lem f a) (match_rule text (matrices_text f (degree f) a) ∷ []) k q c) at e in
-          let y : refusal_at k q ≡ refusal_at 14 p = cc in
-          absurd (not_fourteen q (c ∙ ap (λ (m : ℕ). refuse m q) (ap (λ (r : Refusal). r.number) y)))
+          let y : refusal_at k q ≡ refusal_at faults.OtherText p = cc in
+          absurd (not_fourteen q (c ∙ ap (λ (m : Fault). refuse m q) (ap (λ (r : Refusal). r.fault) y)))
 
 -- ---- texts that go on, that stop, and that are not there
 
 module _ (f a : ℕ) (b : Based f (degree f) a) where
   refused-at : (text : List ℕ) (p : ℕ) → (text ≡ matrices_text f (degree f) a → ⊥) → common_lines text (matrices_text f (degree f) a) ≡ p
-      → read_text_answer f a text ≡ issued.Refused (refusal_at 14 p)
+      → read_text_answer f a text ≡ Err (refusal_at faults.OtherText p)
   unfolding common_lines
-  refused-at text p h e = text_differs f a text b h ∙ ap (λ (m : ℕ). issued.Refused (refusal_at 14 m)) e
+  refused-at text p h e = text_differs f a text b h ∙ ap (λ (m : ℕ). Err (refusal_at faults.OtherText m)) e
 
   -- "extra": one byte or more after the right text
-  pub extra_refused : (byte : ℕ) (rest : List ℕ) → read_text_answer f a (matrices_text f (degree f) a ++ (byte ∷ rest)) ≡ issued.Refused (refusal_at 14 (line_count (degree f)))
+  pub extra_refused : (byte : ℕ) (rest : List ℕ) → read_text_answer f a (matrices_text f (degree f) a ++ (byte ∷ rest)) ≡ Err (refusal_at faults.OtherText (line_count (degree f)))
   extra_refused byte rest =
       let right : List ℕ = matrices_text f (degree f) a in
       refused-at (right ++ (byte ∷ rest)) (line_count (degree f))
@@ -119,13 +121,13 @@ module _ (f a : ℕ) (b : Based f (degree f) a) where
       (place_extra f (degree f) a (byte ∷ rest))
 
   -- "missing": the right text but for one byte or more at its end
-  pub beginning_refused : (text : List ℕ) (byte : ℕ) (rest : List ℕ) → matrices_text f (degree f) a ≡ text ++ (byte ∷ rest) → read_text_answer f a text ≡ issued.Refused (refusal_at 14 (count_of line_end text))
+  pub beginning_refused : (text : List ℕ) (byte : ℕ) (rest : List ℕ) → matrices_text f (degree f) a ≡ text ++ (byte ∷ rest) → read_text_answer f a text ≡ Err (refusal_at faults.OtherText (count_of line_end text))
   beginning_refused text byte rest e =
       refused-at text (count_of line_end text)
       (λ p. let s : length text ≡ length text + length (byte ∷ rest) = ap length (p ∙ e) ∙ length-append text (byte ∷ rest) in omega (arith, s))
       (ap (common_lines text) e ∙ place_beginning text (byte ∷ rest))
 
-  pub empty_refused : read_text_answer f a [] ≡ issued.Refused (refusal_at 14 0)
+  pub empty_refused : read_text_answer f a [] ≡ Err (refusal_at faults.OtherText 0)
   unfolding text_size
   empty_refused =
       let n : ℕ = degree f in

@@ -12,16 +12,18 @@ use Rattle.refusals.specs.Verdicts.{first_of}
 use Rattle.refusals.specs.Answers.{left}
 use Rattle.sheet.specs.Record.{record_count, conjugate_in, polynomial_in}
 use Rattle.sheet.specs.Answers.{Issue, issue_of, issued_of, summary_of, summary_in, at_front}
-use Rattle.sheet.specs.declared.answer.Issued.{Issued}
 use Rattle.matrices.specs.Matrices.{matrices_text}
 use Rattle.matrices.specs.Orders.{write_text_order, read_text_order}
+use Rattle.std.specs.Prelude.{Result}
+use Rattle.refusals.specs.declared.answer.Refusal.{Refusal}
+use Rattle.sheet.specs.declared.answer.Summary.{Summary}
 
 -- ---- writing
 
 abbrev pub text_in : (sheet : List ℕ) → List ℕ
 text_in sheet = matrices_text (polynomial_in sheet) (record_count sheet) (conjugate_in sheet 0)
 
-unfoldable pub write_text_answer : (sheet : List ℕ) (room : ℕ) → Issued
+unfoldable pub write_text_answer : (sheet : List ℕ) (room : ℕ) → Result Summary Refusal
 write_text_answer sheet room = issued_of (first_of (write_text_order sheet room)) (summary_in sheet)
 
 unfoldable pub write_text_report : (sheet : List ℕ) (room : ℕ) → Issue
@@ -33,7 +35,7 @@ written_text sheet buffer = left (first_of (write_text_order sheet (length buffe
 
 -- ---- "Reading needs f and the element too."
 
-unfoldable pub read_text_answer : (f a : ℕ) (text : List ℕ) → Issued
+unfoldable pub read_text_answer : (f a : ℕ) (text : List ℕ) → Result Summary Refusal
 read_text_answer f a text = issued_of (first_of (read_text_order f a text)) (summary_of f (degree f) a)
 
 unfoldable pub read_text_report : (f a : ℕ) (text : List ℕ) → Issue

@@ -20,20 +20,20 @@ use Rattle.refusals.specs.declared.answer.Refusal.{Refusal}
 use Rattle.field.specs.Refusals.{field_order}
 use Rattle.sheet.specs.Answers.{issued_of, issued_report, summary_of}
 use Rattle.sheet.specs.Answered.{issued_promised}
-use Rattle.sheet.specs.declared.answer.Issued.{Issued}
-use Rattle.sheet.specs.declared.answer.Issued.TheVariants as issued
 use Rattle.matrices.specs.Orders.{match_order, read_text_order}
 use Rattle.matrices.specs.Answers.{read_text_answer, read_text_report}
+use Rattle.std.specs.Prelude.{Result, Err}
+use Rattle.sheet.specs.declared.answer.Summary.{Summary}
 
 -- ---- reading
 
 module _ (f a : ℕ) (text : List ℕ) where
-  pub text_refused : {r : Refusal} → first_of (read_text_order f a text) ≡ refuse r.number r.place
-      → (issued.Refused r ≡ read_text_answer f a text) × (issued_report (issued.Refused r) ≡ read_text_report f a text)
+  pub text_refused : {r : Refusal} → first_of (read_text_order f a text) ≡ refuse r.fault r.place
+      → (Err r ≡ read_text_answer f a text) × (issued_report (Err r) ≡ read_text_report f a text)
   unfolding read_text_answer read_text_report
-  text_refused {r} e = issued_promised (first_of (read_text_order f a text)) (summary_of f (degree f) a) (answer-refused issued.Refused _ {r = r} e)
+  text_refused {r} e = issued_promised (first_of (read_text_order f a text)) (summary_of f (degree f) a) (answer-refused Err _ {r = r} e)
 
-  pub text_rest : (n : ℕ) {r : Issued} → n ≡ degree f → first_of (read_text_order f a text) ≡ first_of (field_order f ++ match_order f (degree f) a text)
+  pub text_rest : (n : ℕ) {r : Result Summary Refusal} → n ≡ degree f → first_of (read_text_order f a text) ≡ first_of (field_order f ++ match_order f (degree f) a text)
       → r ≡ issued_of (first_of (field_order f ++ match_order f n a text)) (summary_of f n a)
       → (r ≡ read_text_answer f a text) × (issued_report r ≡ read_text_report f a text)
   unfolding read_text_answer read_text_report

@@ -27,11 +27,11 @@ use Rattle.refusals.specs.declared.answer.Refusal.{Refusal}
 use Rattle.sheet.specs.Record.{record_size, record_count, conjugate_in, polynomial_in}
 use Rattle.sheet.specs.Answers.{summary_in, built_buffer}
 use Rattle.sheet.specs.declared.answer.Summary.{Summary}
-use Rattle.sheet.specs.declared.answer.Issued.TheVariants as issued
 use Rattle.matrices.specs.Matrices.{text_size}
 use Rattle.matrices.specs.Orders.{write_text_order}
 use Rattle.matrices.specs.Answers.{write_text_answer, written_text}
 use Rattle.matrices.specs.Judging.{not_refused}
+use Rattle.std.specs.Prelude.{Ok, Err}
 
 -- ---- the lent text
 
@@ -40,7 +40,7 @@ abbrev pub text_given : (sheet buffer : List ℕ) → List ℕ
 text_given sheet buffer = take (text_size (record_count sheet)) (written_text sheet buffer)
 
 -- on a refusal the buffer is unchanged
-pub written_kept : (sheet buffer : List ℕ) (r : Refusal) → write_text_answer sheet (length buffer) ≡ issued.Refused r → written_text sheet buffer ≡ buffer
+pub written_kept : (sheet buffer : List ℕ) (r : Refusal) → write_text_answer sheet (length buffer) ≡ Err r → written_text sheet buffer ≡ buffer
 unfolding written_text write_text_answer left answer_of
 written_kept sheet buffer r e = go (first_of (write_text_order sheet (length buffer))) refl
   where
@@ -56,7 +56,7 @@ pub record GivenFor (f a : ℕ) (text : List ℕ) (t : Summary) : Type 0 where
   pub buffer : List ℕ
   pub polynomial : polynomial_in sheet ≡ f
   pub element : conjugate_in sheet 0 ≡ a
-  pub answer : write_text_answer sheet (length buffer) ≡ issued.Done t
+  pub answer : write_text_answer sheet (length buffer) ≡ Ok t
   pub front : text ≡ text_given sheet buffer
 
 -- ---- over the sheet that build wrote

@@ -14,7 +14,7 @@
 -- What a sheet is that reading accepts: `read-sheet` in `Issuing` of `sheet`. What writing leaves: `Exact`. 14 and its place: `Places`.
 -- What of this a wrong definition breaks, and what rests on that, stands in `proofs/Judging.antt`.
 -- Assumes nothing.
-use Rattle.std.specs.Prelude.{◌≡◌, ◌↔◌, ℕ, ◌*◌, ◌≤◌}
+use Rattle.std.specs.Prelude.{Result, ◌≡◌, ◌↔◌, ℕ, ◌*◌, ◌≤◌}
 use Rattle.std.proofs.Math.Path.{refl, ap}
 use Rattle.std.proofs.Common.{sym, ◌∙◌, le_refl, arith}
 use mathlib.Core.List.{List, [], ◌∷◌, ◌++◌}
@@ -36,10 +36,10 @@ use Rattle.sheet.proofs.Issuing.{build_issues, build-based}
 use Rattle.sheet.specs.Sheets.{Based}
 use Rattle.sheet.specs.Written.{same_refl, same_equal}
 use Rattle.sheet.specs.declared.answer.Summary.{Summary}
-use Rattle.sheet.specs.declared.answer.Issued.TheVariants as issued
 use Rattle.matrices.specs.Matrices.{matrices_text}
 use Rattle.matrices.specs.Orders.{match_rule, read_text_order}
 use Rattle.matrices.specs.Answers.{read_text_answer}
+use Rattle.std.specs.Prelude.{Ok, Err}
 
 -- ---- reading, by its verdict
 
@@ -82,7 +82,7 @@ module _ (f a : ℕ) (text : List ℕ) where
       ∙ first_passes (match_rule text right) [] (rw (r.1, same_refl right)) ∙ first-none
 
   -- the right text of an accepted f and a normal element, and nothing else
-  pub text_done_exactly : (read_text_answer f a text ≡ issued.Done (summary_of f (degree f) a)) ↔ Right f a text
+  pub text_done_exactly : (read_text_answer f a text ≡ Ok (summary_of f (degree f) a)) ↔ Right f a text
   unfolding read_text_answer answer_of
   text_done_exactly =
       let s : Summary = summary_of f (degree f) a in
@@ -90,24 +90,24 @@ module _ (f a : ℕ) (text : List ℕ) where
 
 -- ---- "answering as build does"
 
-pub not_refused : (s : Summary) (r : Refusal) → issued.Done s ≡ issued.Refused r → ⊥
+pub not_refused : (s : Summary) (r : Refusal) → Ok s ≡ Err r → ⊥
 not_refused s r e = let z : ◌≡◌ {A = ℕ} 0 1 = cc in omega arith
 
 module _ (f a room : ℕ) (fits : record_size * degree f ≤ room) (text : List ℕ) where
   -- a text that is accepted is answered as build answers
-  pub text_done_as_build : (t : Summary) → read_text_answer f a text ≡ issued.Done t → build_answer f a room ≡ issued.Done t
+  pub text_done_as_build : (t : Summary) → read_text_answer f a text ≡ Ok t → build_answer f a room ≡ Ok t
   unfolding read_text_answer
   text_done_as_build t e =
       let s : Summary = summary_of f (degree f) a in
       let c = done-clear (first_of (read_text_order f a text)) s t e in
-      let done : issued.Done s ≡ issued.Done t = unfold answer_of in rw c at e in
+      let done : ◌≡◌ {A = Result Summary Refusal} (Ok s) (Ok t) = unfold answer_of in rw c at e in
       build_answered f a room (text_right f a text c).0 fits ∙ done
 
   -- what build refuses, with its number and place
-  pub text_refused_as_build : (r : Refusal) → build_answer f a room ≡ issued.Refused r → read_text_answer f a text ≡ issued.Refused r
+  pub text_refused_as_build : (r : Refusal) → build_answer f a room ≡ Err r → read_text_answer f a text ≡ Err r
   unfolding read_text_answer build_answer answer_of
   text_refused_as_build r e = go (first_of (based_order_lem f a)) refl
     where
-      go : (v : Verdict) → first_of (based_order_lem f a) ≡ v → read_text_answer f a text ≡ issued.Refused r
+      go : (v : Verdict) → first_of (based_order_lem f a) ≡ v → read_text_answer f a text ≡ Err r
       go clear c = absurd (not_refused (summary_of f (degree f) a) r (rw (build-roomy f a room fits, c) at e))
       go (refuse k p) c = rw (part-refused (based_order_lem f a) (match_rule text (matrices_text f (degree f) a) ∷ []) k p c) (rw (build-roomy f a room fits, c) at e)

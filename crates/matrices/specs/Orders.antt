@@ -16,6 +16,7 @@ use Rattle.field.specs.Refusals.{operand_order, field_order}
 use Rattle.sheet.specs.Record.{record_count}
 use Rattle.sheet.specs.Orders.{same, normal_rule, read_order}
 use Rattle.matrices.specs.Matrices.{line_end, matrices_text, text_size}
+use Rattle.refusals.specs.declared.fault.Fault.TheVariants as faults
 
 -- ---- the place of 14
 
@@ -37,11 +38,11 @@ common_lines x y = count_of line_end (common x y)
 
 -- "6 for a buffer below n(n(n+1)+1) bytes"
 abbrev pub text_room_rule : (n room : ℕ) → Rule
-text_room_rule n room = record { number = 6; place = 0; applies = ltb room (text_size n) }
+text_room_rule n room = record { fault = faults.NoRoom; place = 0; applies = ltb room (text_size n) }
 
 -- "14, text does not match"
 abbrev pub match_rule : (text right : List ℕ) → Rule
-match_rule text right = record { number = 14; place = common_lines text right; applies = not (same text right) }
+match_rule text right = record { fault = faults.OtherText; place = common_lines text right; applies = not (same text right) }
 
 -- ---- the orders
 

@@ -1,7 +1,6 @@
 // The public call read_matrices: the conditions of a build, and then the text, line by line, against the one that the table gives. No copy
 // of the right text is made: each byte is worked out where it stands.
 ghost use Rattle.std.specs.Prelude.{◌≡◌, cond, [], ◌∷◌, ◌++◌, ◌+◌, ◌^◌, ◌≤◌, ◌<◌, drop};
-ghost use Rattle.gf2.specs.Spread.{SpreadTable};
 ghost use Rattle.refusals.specs.Verdicts.{first_of, clear};
 ghost use Rattle.refusals.specs.Answers.{checked_of};
 ghost use Rattle.field.specs.Accepted.{Operand};
@@ -15,10 +14,10 @@ ghost use Rattle.matrices.specs.Answers.{read_text_answer, read_text_report};
 
 use super::line::{LINE_END, RowsTwice, digit, matrix_size, rows_twice, text_size};
 use field::{field_verdict, operand_verdict};
-use gf2::{degree_of, spread_table};
+use gf2::{Spread, degree_of};
 use normal::build_basis;
-use refusals::{Checked, Refusal, refused_at};
-use sheet::{Issued, summary_of};
+use refusals::{Fault, Refusal, refused_at};
+use sheet::{Summary, summary_of};
 
 // Whether a line ends at a place of the text.
 fn common_end(text: &[u8], at: usize) -> bool
@@ -77,64 +76,58 @@ impl RowsTwice {
     }
 
     // 14, with the first line that is wrong, missing or too many.
-    fn match_verdict(&self, text: &[u8]) -> Checked
+    fn match_verdict(&self, text: &[u8]) -> Result<(), Refusal>
         ensures { result ≡ checked_of (first_of (match_rule text.now (text_bytes self.now.n (turned self.now.n self.now.rows)) ∷ [])) }
     {
         let n = self.n;
         let lines = self.common_text(text);
         if lines < n * (n + 1) {
-            return refused_at(14, lines);
+            return refused_at(Fault::OtherText, lines);
         }
         if text.len() != text_size(n) {
-            return refused_at(14, lines);
+            return refused_at(Fault::OtherText, lines);
         }
-        Checked::Done
+        Ok(())
     }
 }
 
 // The text of an accepted f and an element: 5, then 14.
-fn read_built(spread: &[u16; 256], f: u64, n: u32, element: u64, text: &[u8]) -> Issued
-    requires { SpreadTable spread.now × Operand f n element × (first_of (field_order f) ≡ clear) }
+fn read_built(
+    spread: &Spread,
+    f: u64,
+    n: u32,
+    element: u64,
+    text: &[u8],
+) -> Result<Summary, Refusal>
+    requires { Operand f n element × (first_of (field_order f) ≡ clear) }
     ensures { result ≡ issued_of (first_of (match_order f n element text.now)) (summary_of f n element) }
 {
     let built = build_basis(spread, f, n, element);
     if !built.normal {
-        return Issued::Refused(Refusal {
-            number: 5,
-            place: 0,
-        });
+        return Err(Refusal::from(Fault::NotNormal));
     }
     let basis = built.basis;
     let table = basis.table;
     let rows = rows_twice(&table, n as usize);
-    let verdict = rows.match_verdict(text);
-    match verdict {
-        Checked::Refused(refusal) => Issued::Refused(refusal),
-        Checked::Done => Issued::Done(summary_of(f, n, element, table)),
-    }
+    rows.match_verdict(text)?;
+    Ok(summary_of(f, n, element, table))
 }
 
 // 2, 3, 5, 14.
-fn read_operand(f: u64, n: u32, element: u64, text: &[u8]) -> Issued
+fn read_operand(f: u64, n: u32, element: u64, text: &[u8]) -> Result<Summary, Refusal>
     requires { Operand f n element }
     ensures { result ≡ issued_of (first_of (field_order f ++ match_order f n element text.now)) (summary_of f n element) }
 {
-    let spread = spread_table();
-    let field = field_verdict(&spread, f, n);
-    match field {
-        Checked::Refused(refusal) => Issued::Refused(refusal),
-        Checked::Done => read_built(&spread, f, n, element, text),
-    }
+    let spread = Spread::new();
+    field_verdict(&spread, f, n)?;
+    read_built(&spread, f, n, element, text)
 }
 
 // Whether the text is the one of f and the element.
-pub fn read_matrices(f: u64, element: u64, text: &[u8]) -> Issued
+pub fn read_matrices(f: u64, element: u64, text: &[u8]) -> Result<Summary, Refusal>
     ensures answer { result ≡ read_text_answer f element text.now }
     ensures report { issued_report result ≡ read_text_report f element text.now }
 {
-    let operand = operand_verdict(f, element);
-    match operand {
-        Checked::Refused(refusal) => Issued::Refused(refusal),
-        Checked::Done => read_operand(f, degree_of(f), element, text),
-    }
+    operand_verdict(f, element)?;
+    read_operand(f, degree_of(f), element, text)
 }

@@ -1,16 +1,15 @@
 // The public call write_matrices, and the text of a table, line after line.
-ghost use Rattle.std.specs.Prelude.{◌≡◌, ◌+◌, ◌≤◌, ◌<◌, length};
+ghost use Rattle.std.specs.Prelude.{Ok, ◌≡◌, ◌+◌, ◌≤◌, ◌<◌, length};
 ghost use Rattle.normal.specs.TableProduct.{entry};
 ghost use Rattle.sheet.specs.Bytes.{pasted};
 ghost use Rattle.sheet.specs.Answers.{issued_report, read_answer};
-ghost use Rattle.sheet.specs.declared.answer.Issued.TheVariants as issued;
 ghost use Rattle.matrices.specs.Matrices.{line_bytes, matrix_bytes, text_bytes, matrix_size, text_size};
 ghost use Rattle.matrices.specs.Turned.{twice_limit, turned};
 ghost use Rattle.matrices.specs.Answers.{write_text_answer, write_text_report, written_text};
 
 use super::line::{LINE_END, RowsTwice, digit, matrix_size, rows_twice, text_size};
-use refusals::Refusal;
-use sheet::{Issued, RECORD, Summary, TABLE_AT, load_rows, read};
+use refusals::{Fault, Refusal};
+use sheet::{RECORD, Summary, TABLE_AT, load_rows, read};
 
 impl RowsTwice {
     // A line at a place of the text: one bit of the n rows from a first one on.
@@ -52,33 +51,28 @@ impl RowsTwice {
 }
 
 // The text of a sheet that reading accepts: 6, or its n matrices.
-fn write_accepted(sheet: &[u8], summary: Summary, text: &mut [u8]) -> Issued
-    requires { read_answer sheet.now ≡ issued.Done summary }
+fn write_accepted(sheet: &[u8], summary: Summary, text: &mut [u8]) -> Result<Summary, Refusal>
+    requires { read_answer sheet.now ≡ Ok summary }
     ensures answer { result ≡ write_text_answer sheet.now (length text.old) }
     ensures report { issued_report result ≡ write_text_report sheet.now (length text.old) }
     ensures written { text.new ≡ written_text sheet.now text.old }
 {
     let n = sheet.len() / RECORD;
     if text.len() < text_size(n) {
-        return Issued::Refused(Refusal {
-            number: 6,
-            place: 0,
-        });
+        return Err(Refusal::from(Fault::NoRoom));
     }
     let table = load_rows(sheet, TABLE_AT);
     let rows = rows_twice(&table, n);
     rows.put_text(text);
-    Issued::Done(summary)
+    Ok(summary)
 }
 
 // The n matrices of a sheet, at the front of the lent text.
-pub fn write_matrices(sheet: &[u8], text: &mut [u8]) -> Issued
+pub fn write_matrices(sheet: &[u8], text: &mut [u8]) -> Result<Summary, Refusal>
     ensures answer { result ≡ write_text_answer sheet.now (length text.old) }
     ensures report { issued_report result ≡ write_text_report sheet.now (length text.old) }
     ensures written { text.new ≡ written_text sheet.now text.old }
 {
-    match read(sheet) {
-        Issued::Refused(refusal) => Issued::Refused(refusal),
-        Issued::Done(summary) => write_accepted(sheet, summary, text),
-    }
+    let summary = read(sheet)?;
+    write_accepted(sheet, summary, text)
 }

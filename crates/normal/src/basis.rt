@@ -1,14 +1,13 @@
 // A basis: the three matrices of a normal element, held by value (document 01, "What a sheet holds").
 ghost use Rattle.std.specs.Prelude.{◌≡◌, ◌≤◌, get_or};
 ghost use Rattle.gf2.specs.Poly.{mul_mod, Degree, Element};
-ghost use Rattle.gf2.specs.Spread.{SpreadTable};
 ghost use Rattle.gf2.specs.Limit.{limit};
 ghost use Rattle.rows.specs.Rows.{comb, Matrix};
 ghost use Rattle.normal.specs.Normal.{listed, padded};
 ghost use Rattle.normal.specs.Basis.{built_of};
 
 use super::conjugates::conjugates_of;
-use gf2::{LIMIT, multiply};
+use gf2::{LIMIT, Spread, multiply};
 use rows::{invert, sum};
 
 #[derive(Clone, Copy)]
@@ -41,8 +40,8 @@ fn table_of(f: u64, n: u32, conjugates: [u64; LIMIT], inverse: [u64; LIMIT]) -> 
 }
 
 // The basis of a, or its dependency.
-pub fn build_basis(spread: &[u16; 256], f: u64, n: u32, a: u64) -> Built
-    requires { SpreadTable spread.now × (n ≤ limit) × Element f n a }
+pub fn build_basis(spread: &Spread, f: u64, n: u32, a: u64) -> Built
+    requires { (n ≤ limit) × Element f n a }
     ensures { result ≡ built_of f n a }
 {
     let conjugates = conjugates_of(spread, f, n, a);

@@ -9,14 +9,15 @@ use Rattle.std.specs.Prelude.{◌≡◌, ◌⊎◌, Bool, true, false, cond, Lis
 use Rattle.std.proofs.Math.Path.{refl}
 use Rattle.std.proofs.Common.{sym, ap, ◌∙◌, inl, inr, arith}
 use Rattle.gf2.specs.Truth.{bool_cases}
+use Rattle.refusals.specs.declared.fault.Fault.{Fault}
 use Rattle.refusals.specs.Verdicts.{Rule, Verdict, clear, refuse, first_of, and_then}
 
-pub refuse_not_clear : (k p : ℕ) → refuse k p ≡ clear → ⊥
+pub refuse_not_clear : (k : Fault) (p : ℕ) → refuse k p ≡ clear → ⊥
 refuse_not_clear k p e = let z : ◌≡◌ {A = ℕ} 0 1 = cc in omega arith
 
 -- ---- one condition
 
-pub first-applies : (r : Rule) (rs : List Rule) → r.applies ≡ true → first_of (r ∷ rs) ≡ refuse r.number r.place
+pub first-applies : (r : Rule) (rs : List Rule) → r.applies ≡ true → first_of (r ∷ rs) ≡ refuse r.fault r.place
 unfolding first_of
 first-applies r rs e = rw e
 
@@ -33,12 +34,12 @@ pub first-clear : (r : Rule) (rs : List Rule) → first_of (r ∷ rs) ≡ clear 
 first-clear r rs e = go (bool_cases r.applies)
   where
     go : (r.applies ≡ true) ⊎ (r.applies ≡ false) → (r.applies ≡ false) × (first_of rs ≡ clear)
-    go (inl a) = absurd (refuse_not_clear r.number r.place (sym (first-applies r rs a) ∙ e))
+    go (inl a) = absurd (refuse_not_clear r.fault r.place (sym (first-applies r rs a) ∙ e))
     go (inr a) = (a, sym (first_passes r rs a) ∙ e)
 
 -- ---- two parts
 
-cond_then : (b : Bool) (k p : ℕ) (v w : Verdict) → cond b (refuse k p) (and_then v w) ≡ and_then (cond b (refuse k p) v) w
+cond_then : (b : Bool) (k : Fault) (p : ℕ) (v w : Verdict) → cond b (refuse k p) (and_then v w) ≡ and_then (cond b (refuse k p) v) w
 unfolding and_then
 cond_then true k p v w = refl
 cond_then false k p v w = refl
@@ -47,11 +48,11 @@ pub first-append : (xs ys : List Rule) → first_of (xs ++ ys) ≡ and_then (fir
 unfolding first_of and_then
 first-append [] ys = refl
 first-append (r ∷ xs) ys =
-    ap (cond r.applies (refuse r.number r.place)) (first-append xs ys)
-    ∙ cond_then r.applies r.number r.place (first_of xs) (first_of ys)
+    ap (cond r.applies (refuse r.fault r.place)) (first-append xs ys)
+    ∙ cond_then r.applies r.fault r.place (first_of xs) (first_of ys)
 
 module _ (xs ys : List Rule) where
-  pub part-refused : (k p : ℕ) → first_of xs ≡ refuse k p → first_of (xs ++ ys) ≡ refuse k p
+  pub part-refused : (k : Fault) (p : ℕ) → first_of xs ≡ refuse k p → first_of (xs ++ ys) ≡ refuse k p
   unfolding and_then
   part-refused k p e = first-append xs ys ∙ rw e
 

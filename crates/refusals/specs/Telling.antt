@@ -10,40 +10,69 @@
 --   report_told, value_told, checked_told   the same for a report, and for the two enums of this crate
 --
 -- Assumes nothing.
-use Rattle.std.specs.Prelude.{◌≡◌, ◌⊎◌, ◌↔◌, Bool, true, false, not, ◌&&◌, List, [], ◌∷◌, ◌++◌, map, ℕ, ◌<◌, ltb, eqb}
+use Rattle.std.specs.Prelude.{◌≡◌, ◌⊎◌, ◌↔◌, Bool, true, false, not, ◌&&◌, List, [], ◌∷◌, ◌++◌, map, ℕ, ◌<◌, ltb, eqb, ◌-◌, slice_index_or, Ok}
 use Rattle.std.proofs.Math.Path.{refl, sym}
 use Rattle.std.proofs.Common.{ap, ◌∙◌, inl, inr, arith, ltb-true}
 use Rattle.std.proofs.lemmas.Bool.{eqb-false}
 use Rattle.gf2.specs.Truth.{not_true, and_parts}
-use Rattle.refusals.specs.Verdicts.{Rule, Verdict, clear, refuse, first_of}
-use Rattle.refusals.specs.Answers.{answer_of, report_of, value_of, checked_of}
+use Rattle.refusals.specs.declared.fault.Fault.{Fault}
+use Rattle.refusals.specs.declared.fault.Fault.TheVariants.{DegreeOutside, Divided, Strays, TooLarge, NotNormal, NoRoom, BadLength, Misplaced, Oversized, Differs, BadList, EmptyRange, ZeroDivisor, OtherText}
+use Rattle.refusals.specs.Verdicts.{fault_number, Rule, Verdict, clear, refuse, first_of}
+use Rattle.refusals.specs.Answers.{answer_of, report_of, value_of, passed, checked_of}
 use Rattle.refusals.specs.Answered.{value_report_lem, checked_report_lem}
 use Rattle.refusals.specs.Orders.{refuse_not_clear, first-applies, first_passes, part-refused, part-clear}
 use Rattle.refusals.specs.Told.{number_of, place_of, First, here, later, In, AtZero, Below, Every, numbers_of, places_of, AllZero, Told, ValueTold, CheckedTold}
-use Rattle.refusals.specs.declared.answer.Value.TheVariants as value
-use Rattle.refusals.specs.declared.answer.Checked.TheVariants as checked
 
 -- ---- along an order
 
-pub refuse-parts : (k p l q : ℕ) → refuse k p ≡ refuse l q → (k ≡ l) × (p ≡ q)
+-- the rows in the order of the table, and the one with a number
+abbrev faults : List Fault
+faults =
+    DegreeOutside ∷ Divided ∷ Strays ∷ TooLarge ∷ NotNormal ∷ NoRoom ∷ BadLength ∷ Misplaced ∷ Oversized ∷ Differs ∷ BadList ∷ EmptyRange
+    ∷ ZeroDivisor ∷ OtherText ∷ []
+
+abbrev fault_of : ℕ → Fault
+fault_of n = slice_index_or faults (n - 1) DegreeOutside
+
+-- no two rows have the same number
+fault_of_number : (k : Fault) → fault_of (fault_number k) ≡ k
+fault_of_number DegreeOutside = refl
+fault_of_number Divided = refl
+fault_of_number Strays = refl
+fault_of_number TooLarge = refl
+fault_of_number NotNormal = refl
+fault_of_number NoRoom = refl
+fault_of_number BadLength = refl
+fault_of_number Misplaced = refl
+fault_of_number Oversized = refl
+fault_of_number Differs = refl
+fault_of_number BadList = refl
+fault_of_number EmptyRange = refl
+fault_of_number ZeroDivisor = refl
+fault_of_number OtherText = refl
+
+pub same_fault : (k l : Fault) → fault_number k ≡ fault_number l → k ≡ l
+same_fault k l e = sym (fault_of_number k) ∙ ap fault_of e ∙ fault_of_number l
+
+pub refuse-parts : (k : Fault) (p : ℕ) (l : Fault) (q : ℕ) → refuse k p ≡ refuse l q → (k ≡ l) × (p ≡ q)
 unfolding number_of place_of
-refuse-parts k p l q e = (ap number_of e, ap place_of e)
+refuse-parts k p l q e = (same_fault k l (ap number_of e), ap place_of e)
 
 -- a verdict that refuses is the first rule that applies
-pub first_found : (rs : List Rule) (k p : ℕ) → first_of rs ≡ refuse k p → First k p rs
+pub first_found : (rs : List Rule) (k : Fault) (p : ℕ) → first_of rs ≡ refuse k p → First (fault_number k) p rs
 unfolding first_of
 first_found [] k p e = absurd (refuse_not_clear k p (sym e))
 first_found (r ∷ rs) k p e = go r.applies refl (first_found rs k p)
   where
-    go : (b : Bool) → r.applies ≡ b → (first_of rs ≡ refuse k p → First k p rs) → First k p (r ∷ rs)
+    go : (b : Bool) → r.applies ≡ b → (first_of rs ≡ refuse k p → First (fault_number k) p rs) → First (fault_number k) p (r ∷ rs)
     go true a ih =
-        let s = refuse-parts r.number r.place k p (sym (first-applies r rs a) ∙ e) in
-        here s.0 s.1 a
+        let s = refuse-parts r.fault r.place k p (sym (first-applies r rs a) ∙ e) in
+        here (ap fault_number s.0) s.1 a
     go false a ih = later a (ih (sym (first_passes r rs a) ∙ e))
 
-pub found_first : (rs : List Rule) (k p : ℕ) → First k p rs → first_of rs ≡ refuse k p
+pub found_first : (rs : List Rule) (k : Fault) (p : ℕ) → First (fault_number k) p rs → first_of rs ≡ refuse k p
 found_first [] k p f = elim f [ ]
-found_first (r ∷ rs) k p (here ek ep a) = rw (first-applies r rs a, ek, ep)
+found_first (r ∷ rs) k p (here ek ep a) = rw (first-applies r rs a, same_fault r.fault k ek, ep)
 found_first (r ∷ rs) k p (later a f) = first_passes r rs a ∙ found_first rs k p f
 
 pub every_first : (P : ℕ → ℕ → Type 0) (rs : List Rule) (k p : ℕ) → Every P rs → First k p rs → P k p
@@ -57,16 +86,16 @@ every_append P (r ∷ xs) ys all rest = (all.0, every_append P xs ys all.1 rest)
 
 pub every_also : (P Q : ℕ → ℕ → Type 0) → ((k p : ℕ) → P k p → Q k p) → (rs : List Rule) → Every P rs → Every Q rs
 every_also P Q h [] all = tt
-every_also P Q h (r ∷ rs) all = (h r.number r.place all.0, every_also P Q h rs all.1)
+every_also P Q h (r ∷ rs) all = (h (fault_number r.fault) r.place all.0, every_also P Q h rs all.1)
 
 -- what a first part does not refuse with, the rest does, and the first part finds nothing
-pub part_passed : (P : ℕ → ℕ → Type 0) (xs ys : List Rule) (k p : ℕ) → Every P xs → (P k p → ⊥) → first_of (xs ++ ys) ≡ refuse k p
+pub part_passed : (P : ℕ → ℕ → Type 0) (xs ys : List Rule) (k : Fault) (p : ℕ) → Every P xs → (P (fault_number k) p → ⊥) → first_of (xs ++ ys) ≡ refuse k p
     → (first_of xs ≡ clear) × (first_of ys ≡ refuse k p)
 part_passed P xs ys k p all off e = go (first_of xs) refl
   where
     go : (v : Verdict) → first_of xs ≡ v → (first_of xs ≡ clear) × (first_of ys ≡ refuse k p)
     go clear c = (c, sym (part-clear xs ys c) ∙ e)
-    go (refuse l q) c = absurd (off (every_first P xs k p all (first_found xs k p (c ∙ sym (part-refused xs ys l q c) ∙ e))))
+    go (refuse l q) c = absurd (off (every_first P xs (fault_number k) p all (first_found xs k p (c ∙ sym (part-refused xs ys l q c) ∙ e))))
 
 -- ---- a number that an order does not have
 
@@ -81,24 +110,24 @@ absent k (m ∷ ks) = not (eqb m k) && absent k ks
 pub absent_lacks : (k : ℕ) (rs : List Rule) → absent k (numbers_of rs) ≡ true → Lacks k rs
 absent_lacks k [] e = tt
 absent_lacks k (r ∷ rs) e =
-    let s = and_parts (not (eqb r.number k)) (absent k (numbers_of rs)) e in
-    (eqb-false r.number k ((not_true (eqb r.number k)).0 s.0), absent_lacks k rs s.1)
+    let s = and_parts (not (eqb (fault_number r.fault) k)) (absent k (numbers_of rs)) e in
+    (eqb-false (fault_number r.fault) k ((not_true (eqb (fault_number r.fault) k)).0 s.0), absent_lacks k rs s.1)
 
 -- a number that stands once in an order is that of its rule: nothing before it applies, and it does
-pub rule-applies : (xs : List Rule) (r : Rule) (ys : List Rule) (p : ℕ) → absent r.number (numbers_of xs) ≡ true → Lacks r.number ys
-    → first_of (xs ++ (r ∷ ys)) ≡ refuse r.number p → (first_of xs ≡ clear) × (r.applies ≡ true)
+pub rule-applies : (xs : List Rule) (r : Rule) (ys : List Rule) (p : ℕ) → absent (fault_number r.fault) (numbers_of xs) ≡ true → Lacks (fault_number r.fault) ys
+    → first_of (xs ++ (r ∷ ys)) ≡ refuse r.fault p → (first_of xs ≡ clear) × (r.applies ≡ true)
 rule-applies xs r ys p before after e = (x.0, go r.applies refl)
   where
     Other : ℕ → ℕ → Type 0
-    Other m q = m ≡ r.number → ⊥
+    Other m q = m ≡ fault_number r.fault → ⊥
 
-    x : (first_of xs ≡ clear) × (first_of (r ∷ ys) ≡ refuse r.number p)
-    x = part_passed Other xs (r ∷ ys) r.number p (absent_lacks r.number xs before) (λ off. off refl) e
+    x : (first_of xs ≡ clear) × (first_of (r ∷ ys) ≡ refuse r.fault p)
+    x = part_passed Other xs (r ∷ ys) r.fault p (absent_lacks (fault_number r.fault) xs before) (λ off. off refl) e
 
     go : (b : Bool) → r.applies ≡ b → r.applies ≡ true
     go true a = a
     go false a =
-        absurd (every_first Other ys r.number p after (first_found ys r.number p (sym (first_passes r ys a) ∙ x.1)) refl)
+        absurd (every_first Other ys (fault_number r.fault) p after (first_found ys r.fault p (sym (first_passes r ys a) ∙ x.1)) refl)
 
 -- ---- places
 
@@ -115,14 +144,14 @@ listed-at-zero rs e = among rs (numbers_of rs) (λ k i. i) (zeros rs e)
 
     among : (l : List Rule) (ks : List ℕ) → ((k : ℕ) → In k (numbers_of l) → In k ks) → Zeros l → Every (AtZero ks) l
     among [] ks sub z = tt
-    among (r ∷ l) ks sub z = ((sub r.number (inl refl), z.0), among l ks (λ k i. sub k (inr i)) z.1)
+    among (r ∷ l) ks sub z = ((sub (fault_number r.fault) (inl refl), z.0), among l ks (λ k i. sub k (inr i)) z.1)
 
 pub placed-zero : (ks : List ℕ) (rs : List Rule) → Every (AtZero ks) rs → 0 ≡ place_of (first_of rs)
 placed-zero ks rs all = go (first_of rs) refl
   where
     go : (v : Verdict) → first_of rs ≡ v → 0 ≡ place_of v
     go clear e = unfold place_of in refl
-    go (refuse k p) e = unfold place_of in sym (every_first (AtZero ks) rs k p all (first_found rs k p e)).1
+    go (refuse k p) e = unfold place_of in sym (every_first (AtZero ks) rs (fault_number k) p all (first_found rs k p e)).1
 
 -- ---- no number is 0
 
@@ -149,7 +178,7 @@ below-positive ks m e k p h = in_positive ks e k h.0
 
 pub told : (rs : List Rule) (P : ℕ → ℕ → Type 0) (Done : Type 0) (number place : ℕ) (values : List ℕ)
     → Every P rs → ((k p : ℕ) → P k p → 0 < k) → (first_of rs ≡ clear ↔ Done)
-    → number ≡ number_of (first_of rs) → place ≡ place_of (first_of rs) → ((k p : ℕ) → first_of rs ≡ refuse k p → AllZero values)
+    → number ≡ number_of (first_of rs) → place ≡ place_of (first_of rs) → ((k : Fault) (p : ℕ) → first_of rs ≡ refuse k p → AllZero values)
     → Told rs P Done number place values
 unfolding number_of place_of
 told rs P Done number place values all positive is en ep zeros = go (first_of rs) refl
@@ -166,7 +195,7 @@ told rs P Done number place values all positive is en ep zeros = go (first_of rs
           zero = λ h. absurd (omega arith);
         }
     go (refuse k p) e =
-        let zn : number ≡ k = en ∙ ap number_of e in
+        let zn : number ≡ fault_number k = en ∙ ap number_of e in
         let zp : place ≡ p = ep ∙ ap place_of e in
         let found : First number place rs = rw (zn, zp) (first_found rs k p e) in
         let within : P number place = every_first P rs number place all found in
@@ -181,17 +210,17 @@ told rs P Done number place values all positive is en ep zeros = go (first_of rs
 
 -- ---- answers of one value, and of none
 
-pub done-value : (v : Verdict) (x : ℕ) → (v ≡ clear) ↔ ((y : ℕ) × (value_of v x ≡ value.Done y))
+pub done-value : (v : Verdict) (x : ℕ) → (v ≡ clear) ↔ ((y : ℕ) × (value_of v x ≡ Ok y))
 unfolding answer_of
 done-value clear x = (λ e. (x, refl), λ d. refl)
 done-value (refuse k p) x = (λ e. absurd (refuse_not_clear k p e), λ d. let e = d.1 in let z : ◌≡◌ {A = ℕ} 0 1 = cc in absurd (omega arith))
 
-pub done_checked : (v : Verdict) → (v ≡ clear) ↔ (checked_of v ≡ checked.Done)
+pub done_checked : (v : Verdict) → (v ≡ clear) ↔ (checked_of v ≡ passed)
 unfolding answer_of
 done_checked clear = (λ e. refl, λ d. refl)
 done_checked (refuse k p) = (λ e. absurd (refuse_not_clear k p e), λ d. let z : ◌≡◌ {A = ℕ} 0 1 = cc in absurd (omega arith))
 
-refused-value : (k p x : ℕ) → (report_of (refuse k p) x).value ≡ 0
+refused-value : (k : Fault) (p x : ℕ) → (report_of (refuse k p) x).value ≡ 0
 unfolding report_of
 refused-value k p x = refl
 

@@ -12,18 +12,15 @@
 --   ValueTold rs P r, CheckedTold rs P r   the same of an answer r
 --
 -- Assumes nothing.
-use Rattle.std.specs.Prelude.{◌≡◌, ◌⊎◌, ◌↔◌, true, false, List, [], ◌∷◌, map, ℕ, ◌<◌}
-use Rattle.refusals.specs.Verdicts.{Rule, Verdict, clear, refuse}
-use Rattle.refusals.specs.Answers.{value_report, checked_report}
-use Rattle.refusals.specs.declared.answer.Value.{Value}
-use Rattle.refusals.specs.declared.answer.Value.TheVariants as value
-use Rattle.refusals.specs.declared.answer.Checked.{Checked}
-use Rattle.refusals.specs.declared.answer.Checked.TheVariants as checked
+use Rattle.std.specs.Prelude.{◌≡◌, ◌⊎◌, ◌↔◌, true, false, List, [], ◌∷◌, map, ℕ, ◌<◌, Result, Ok, Err}
+use Rattle.refusals.specs.Verdicts.{fault_number, Rule, Verdict, clear, refuse}
+use Rattle.refusals.specs.declared.answer.Refusal.{Refusal}
+use Rattle.refusals.specs.Answers.{value_report, Checked, passed, checked_report}
 
 -- "Done is 0 with place 0."
 unfoldable pub number_of : Verdict → ℕ
 number_of clear = 0
-number_of (refuse k p) = k
+number_of (refuse k p) = fault_number k
 
 unfoldable pub place_of : Verdict → ℕ
 place_of clear = 0
@@ -31,7 +28,7 @@ place_of (refuse k p) = p
 
 -- "Each condition is tested only if none earlier in the call's order applied."
 pub data First (k p : ℕ) : List Rule → Type 0 where
-  here : {r : Rule} {rs : List Rule} → r.number ≡ k → r.place ≡ p → r.applies ≡ true → First k p (r ∷ rs)
+  here : {r : Rule} {rs : List Rule} → fault_number r.fault ≡ k → r.place ≡ p → r.applies ≡ true → First k p (r ∷ rs)
   later : {r : Rule} {rs : List Rule} → r.applies ≡ false → First k p rs → First k p (r ∷ rs)
 
 -- ---- the numbers and places of an order
@@ -48,10 +45,10 @@ Below ks m k p = In k ks × (p < m)
 
 abbrev pub Every : (ℕ → ℕ → Type 0) → List Rule → Type 0
 Every P [] = Unit {0}
-Every P (r ∷ rs) = P r.number r.place × Every P rs
+Every P (r ∷ rs) = P (fault_number r.fault) r.place × Every P rs
 
 abbrev pub numbers_of : List Rule → List ℕ
-numbers_of rs = map (λ (r : Rule). r.number) rs
+numbers_of rs = map (λ (r : Rule). fault_number r.fault) rs
 
 abbrev pub places_of : List Rule → List ℕ
 places_of rs = map (λ (r : Rule). r.place) rs
@@ -73,8 +70,8 @@ pub record Told (rs : List Rule) (P : ℕ → ℕ → Type 0) (Done : Type 0) (n
   -- "A refusal's other values are zero"
   pub zero : 0 < number → AllZero values
 
-abbrev pub ValueTold : (rs : List Rule) → (ℕ → ℕ → Type 0) → Value → Type 0
-ValueTold rs P r = Told rs P ((x : ℕ) × (r ≡ value.Done x)) (value_report r).number (value_report r).place ((value_report r).value ∷ [])
+abbrev pub ValueTold : (rs : List Rule) → (ℕ → ℕ → Type 0) → Result ℕ Refusal → Type 0
+ValueTold rs P r = Told rs P ((x : ℕ) × (r ≡ Ok x)) (value_report r).number (value_report r).place ((value_report r).value ∷ [])
 
 abbrev pub CheckedTold : (rs : List Rule) → (ℕ → ℕ → Type 0) → Checked → Type 0
-CheckedTold rs P r = Told rs P (r ≡ checked.Done) (checked_report r).number (checked_report r).place ((checked_report r).value ∷ [])
+CheckedTold rs P r = Told rs P (r ≡ passed) (checked_report r).number (checked_report r).place ((checked_report r).value ∷ [])

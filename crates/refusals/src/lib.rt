@@ -2,5 +2,7 @@
 #![tactic(auto)]
 
 mod answer;
+mod fault;
 
-pub use answer::{Checked, Refusal, Value, refused, refused_at};
+pub use answer::{Refusal, refused, refused_at};
+pub use fault::Fault;

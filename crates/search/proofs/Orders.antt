@@ -13,11 +13,12 @@ use Rattle.field.proofs.Orders.{operand-inside, operands_judged}
 use Rattle.search.specs.Answers.{range_rule, search_order}
 use Rattle.search.specs.Begun.{RangeOf}
 use Rattle.search.specs.Orders.{clear-field}
+use Rattle.refusals.specs.declared.fault.Fault.TheVariants as faults
 
 -- ---- 12
 
 module _ (f first last : ℕ) where
-  pub range_empty : last < first → first_of (range_rule first last ∷ field_order f) ≡ refuse 12 0
+  pub range_empty : last < first → first_of (range_rule first last ∷ field_order f) ≡ refuse faults.EmptyRange 0
   range_empty l = first-applies (range_rule first last) _ (lt-ltb last first l)
 
   pub range_past : first ≤ last → first_of (range_rule first last ∷ field_order f) ≡ first_of (field_order f)
@@ -25,13 +26,13 @@ module _ (f first last : ℕ) where
 
   -- ---- along the order
 
-  pub search-outside : degree_outside f ≡ true → first_of (search_order f first last) ≡ refuse 1 0
+  pub search-outside : degree_outside f ≡ true → first_of (search_order f first last) ≡ refuse faults.DegreeOutside 0
   search-outside e = first-applies (degree_rule f) _ e
 
   module _ (inside : degree_outside f ≡ false) where
-    pub search-last : too_large_lem (degree f) last ≡ true → first_of (search_order f first last) ≡ refuse 4 0
+    pub search-last : too_large_lem (degree f) last ≡ true → first_of (search_order f first last) ≡ refuse faults.TooLarge 0
     search-last e =
-        part-refused (operand_order f (first ∷ last ∷ [])) (range_rule first last ∷ field_order f) 4 0
+        part-refused (operand_order f (first ∷ last ∷ [])) (range_rule first last ∷ field_order f) faults.TooLarge 0
         (operand-inside f (degree f) (first ∷ last ∷ []) refl inside
         ∙ element_large (degree f) (first ∷ last ∷ []) (or_right (too_large_lem (degree f) first) (too_large_lem (degree f) last || false) (rw e)))
 

@@ -8,18 +8,19 @@
 -- Assumes nothing.
 use Rattle.std.specs.Prelude.{List, [], ◌∷◌, ◌++◌, ℕ, ltb}
 use Rattle.gf2.specs.Poly.{degree}
-use Rattle.refusals.specs.Verdicts.{Rule, Verdict, clear, refuse, first_of}
+use Rattle.refusals.specs.Verdicts.{fault_number, Rule, Verdict, clear, refuse, first_of}
 use Rattle.refusals.specs.Answers.{answer_of}
 use Rattle.refusals.specs.declared.answer.Refusal.{Refusal}
 use Rattle.field.specs.Refusals.{operand_order, field_order}
 use Rattle.normal.specs.Grades.{grade_number}
-use Rattle.search.specs.Search.{ranged}
-use Rattle.search.specs.declared.answer.Search.{Search}
-use Rattle.search.specs.declared.answer.Search.TheVariants.{Refused, Nothing, Found}
+use Rattle.search.specs.Search.{Search, ranged}
+use Rattle.search.specs.declared.answer.Best.{Best}
+use Rattle.std.specs.Prelude.{Result, Option, Ok, Err, Some, None}
+use Rattle.refusals.specs.declared.fault.Fault.TheVariants as faults
 
 -- "first of the range is greater than last"
 abbrev pub range_rule : (first last : ℕ) → Rule
-range_rule first last = record { number = 12; place = 0; applies = ltb last first }
+range_rule first last = record { fault = faults.EmptyRange; place = 0; applies = ltb last first }
 
 -- "Search: 1, 4, 12, 2, 3."
 abbrev pub search_order : (f first last : ℕ) → List Rule
@@ -27,7 +28,7 @@ search_order f first last = operand_order f (first ∷ last ∷ []) ++ (range_ru
 
 -- "refused with a number", or what the walk gives
 abbrev pub search_of : Verdict → Search → Search
-search_of v x = answer_of (λ (r : Refusal). Refused r.number) x v
+search_of v x = answer_of Err x v
 
 unfoldable pub search_answer : (f first last : ℕ) → Search
 search_answer f first last = search_of (first_of (search_order f first last)) (ranged f (degree f) first last)
@@ -47,14 +48,14 @@ refused_report k = record { number = k; element = 0; complexity = 0; grade = 0; 
 
 -- "refused with a number"; "nothing counts as 0"; "found, with the element, its complexity, its grade and the count"
 unfoldable pub case_report : Search → SearchReport
-case_report (Refused k) = refused_report k
-case_report Nothing = record { number = 0; element = 0; complexity = 0; grade = 0; count = 0 }
-case_report (Found x) =
+case_report (Err r) = refused_report (fault_number r.fault)
+case_report (Ok None) = record { number = 0; element = 0; complexity = 0; grade = 0; count = 0 }
+case_report (Ok (Some x)) =
     record { number = 0; element = x.element; complexity = x.complexity; grade = grade_number x.grade; count = x.count }
 
 unfoldable pub report_of : Verdict → Search → SearchReport
 report_of clear x = case_report x
-report_of (refuse k p) x = refused_report k
+report_of (refuse k p) x = refused_report (fault_number k)
 
 unfoldable pub search_report : (f first last : ℕ) → SearchReport
 search_report f first last = report_of (first_of (search_order f first last)) (ranged f (degree f) first last)

@@ -6,6 +6,7 @@
 --   trace_leader f n a              a is a leader of trace 1
 --   FirstFrom f n t first last r   r is the first from first to last that passes t, or the number after last where there is none; no normal leader
 --                                  stands before it
+--   FirstOf f n t first last x     the same, where x is none if there is none
 --
 -- In order: leaders of trace 1; elements that add nothing; up to the first; on from there, turn by turn, with the bound that the turns need.
 -- What of this a wrong definition breaks, and what rests on that, stands in `proofs/Begun.antt`.
@@ -13,14 +14,17 @@
 use Rattle.std.specs.Prelude.{◌≡◌, Bool, true, false, ◌&&◌, eqb}
 use Rattle.std.proofs.Common.{◌∙◌, ⊎_elim, arith}
 use Prim.Native.Nat.{ℕ, ◌+◌, ◌-◌, ◌^◌, ◌≤◌, ◌<◌}
+use Rattle.std.specs.declared.option.Option.{Option}
+use Rattle.std.specs.declared.option.Option.TheVariants.{None, Some}
 use Rattle.gf2.specs.Truth.{bool_cases, and_parts}
 use Rattle.field.specs.Field.{trace}
 use Rattle.elements.specs.Fields.{FieldOf}
 use Rattle.elements.specs.Traces.{no_trace_not_normal}
-use Rattle.search.specs.Search.{leader, normal_leader, joined, walked}
+use Rattle.search.specs.Search.{Search, leader, normal_leader, joined, walked}
 use Rattle.search.specs.Walks.{no_leader, not_normal}
-use Rattle.search.specs.declared.answer.Search.{Search}
-use Rattle.search.specs.declared.answer.Search.TheVariants.{Nothing}
+use Rattle.search.specs.declared.answer.Best.{Best}
+use Rattle.refusals.specs.declared.answer.Refusal.{Refusal}
+use Rattle.std.specs.Prelude.{Result, Ok}
 
 pub record RangeOf (f n first last : ℕ) : Type 0 where
   pub of_field : FieldOf f n
@@ -37,8 +41,12 @@ trace_leader f n a = eqb (trace f n a) 1 && leader f n a
 pub record FirstFrom (f n : ℕ) (t : ℕ → Bool) (first last r : ℕ) : Type 0 where
   pub since : first ≤ r
   pub upto : r ≤ last + 1
-  pub none : walked f n first (r - first) ≡ Nothing
+  pub none : walked f n first (r - first) ≡ Ok None
   pub passes : r ≤ last → t r ≡ true
+
+abbrev pub FirstOf : (f n : ℕ) (t : ℕ → Bool) (first last : ℕ) → Option ℕ → Type 0
+FirstOf f n t first last None = FirstFrom f n t first last (last + 1)
+FirstOf f n t first last (Some r) = (r ≤ last) × FirstFrom f n t first last r
 
 -- ---- leaders of trace 1
 

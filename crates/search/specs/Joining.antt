@@ -20,26 +20,26 @@ use Rattle.field.specs.Accepted.{Operand}
 use Rattle.elements.specs.Fields.{ElementOf}
 use Rattle.elements.specs.Ones.{Within}
 use Rattle.elements.specs.Decided.{Decides}
-use Rattle.elements.specs.declared.deciding.Decided.{Decided}
-use Rattle.elements.specs.declared.deciding.Decided.TheVariants as decided
-use Rattle.search.specs.Search.{leader, complexity_at, found_by, better, joined, candidate_of, count_of}
+use Rattle.std.specs.declared.option.Option.{Option}
+use Rattle.std.specs.declared.option.Option.TheVariants.{None, Some}
+use Rattle.search.specs.Search.{Search, leader, complexity_at, found_by, better, joined, candidate_of, count_of}
 use Rattle.search.specs.Preceding.{Precedes, precedes-means}
 use Rattle.search.specs.Joined.{before, better-left, joined-nothing}
 use Rattle.search.specs.Walks.{candidate_is, candidate_none, normal-leader, not_normal}
 use Rattle.search.specs.declared.answer.Best.{Best}
-use Rattle.search.specs.declared.answer.Search.{Search}
-use Rattle.search.specs.declared.answer.Search.TheVariants.{Refused, Nothing, Found}
+use Rattle.refusals.specs.declared.answer.Refusal.{Refusal}
+use Rattle.std.specs.Prelude.{Result, Ok, Err}
 
 abbrev pub unbounded : ℕ
 unbounded = 4294967295
 
 -- Nothing is joined to a refusal, so that there any bound will do.
 abbrev pub bound_of : Search → ℕ
-bound_of (Refused k) = 0
-bound_of Nothing = unbounded
-bound_of (Found x) = x.complexity
+bound_of (Err k) = 0
+bound_of (Ok None) = unbounded
+bound_of (Ok (Some x)) = x.complexity
 
-pub record Joinable (f n : ℕ) (w : Search) (a : ℕ) (x : Decided) : Type 0 where
+pub record Joinable (f n : ℕ) (w : Search) (a : ℕ) (x : Option ℕ) : Type 0 where
   pub of_element : ElementOf f n a
   pub leads : leader f n a ≡ true
   pub decides : Decides f n a (bound_of w) x
@@ -71,27 +71,27 @@ module _ (f n a : ℕ) (x : Best) where
 
 -- c is a number of 32 bits
 joined-within : (f n a : ℕ) (w : Search) (c d : ℕ) → c ≤ unbounded → Within (bound_of w) c d
-    → joined w (Found (found_by f n a c)) ≡ joined w (Found (found_by f n a d))
+    → joined w (Ok (Some (found_by f n a c))) ≡ joined w (Ok (Some (found_by f n a d)))
 unfolding joined
-joined-within f n a (Refused k) c d h e = refl
-joined-within f n a Nothing c d h e = let s : c ≡ d = omega arith in ap (λ (k : ℕ). Found (found_by f n a k)) s
-joined-within f n a (Found x) c d h e = ap Found (better-within f n a x c d e)
+joined-within f n a (Err k) c d h e = refl
+joined-within f n a (Ok None) c d h e = let s : c ≡ d = omega arith in ap (λ (k : ℕ). Ok (Some (found_by f n a k))) s
+joined-within f n a (Ok (Some x)) c d h e = ap (λ (b : Best). Ok (Some b)) (better-within f n a x c d e)
 
 -- ---- a found record, by the cases of what is held
 
-pub join_refused : (w : Search) (k : ℕ) (x : Best) → w ≡ Refused k → Refused k ≡ joined w (Found x)
+pub join_refused : (w : Search) (k : Refusal) (x : Best) → w ≡ Err k → Err k ≡ joined w (Ok (Some x))
 unfolding joined
 join_refused w k x e = rw e
 
-pub join_first : (w : Search) (x y : Best) → w ≡ Nothing → y ≡ x → Found y ≡ joined w (Found x)
+pub join_first : (w : Search) (x y : Best) → w ≡ Ok None → y ≡ x → Ok (Some y) ≡ joined w (Ok (Some x))
 unfolding joined
 join_first w x y e ey = rw (e, ey)
 
-pub join_better : (w : Search) (x held r : Best) → w ≡ Found held → r ≡ better held x → Found r ≡ joined w (Found x)
+pub join_better : (w : Search) (x held r : Best) → w ≡ Ok (Some held) → r ≡ better held x → Ok (Some r) ≡ joined w (Ok (Some x))
 unfolding joined
 join_better w x held r e er = rw (e, er)
 
-pub counts_fit : (w : Search) (x : Best) → w ≡ Found x → count_of w + 1 < 2 ^ 64 → x.count + 1 < 2 ^ 64
+pub counts_fit : (w : Search) (x : Best) → w ≡ Ok (Some x) → count_of w + 1 < 2 ^ 64 → x.count + 1 < 2 ^ 64
 unfolding count_of
 counts_fit w x e h = rw e at h
 
@@ -104,16 +104,16 @@ operand_of s =
 
 -- ---- the leader a
 
-module _ (f n : ℕ) (w : Search) (a : ℕ) (x : Decided) (s : Joinable f n w a x) where
-  pub join_not_normal : x ≡ decided.NotNormal → w ≡ joined w (candidate_of f n a)
+module _ (f n : ℕ) (w : Search) (a : ℕ) (x : Option ℕ) (s : Joinable f n w a x) where
+  pub join_not_normal : x ≡ None → w ≡ joined w (candidate_of f n a)
   join_not_normal e =
       let t : normal f n a ≡ false = rw e at s.decides in
       sym (rw (candidate_none f n a (not_normal f n a s.leads t)) (joined-nothing w))
 
-  pub join_normal : (c : ℕ) → x ≡ decided.Normal c → c ≤ unbounded → (r : Search) → r ≡ joined w (Found (found_by f n a c)) → r ≡ joined w (candidate_of f n a)
+  pub join_normal : (c : ℕ) → x ≡ Some c → c ≤ unbounded → (r : Search) → r ≡ joined w (Ok (Some (found_by f n a c))) → r ≡ joined w (candidate_of f n a)
   unfolding complexity_at
   join_normal c e h r er =
-      let t : Decides f n a (bound_of w) (decided.Normal c) = rw e at s.decides in
+      let t : Decides f n a (bound_of w) (Some c) = rw e at s.decides in
       er
       ∙ joined-within f n a w c (complexity_at f n a) h t.1
       ∙ ap (joined w) (sym (candidate_is f n a (normal-leader f n a s.leads t.0)))

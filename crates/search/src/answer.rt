@@ -9,10 +9,3 @@ pub struct Best {
     pub grade: Grade,
     pub count: u64,
 }
-
-#[derive(Clone, Copy)]
-pub enum Search {
-    Refused(u8),
-    Nothing,
-    Found(Best),
-}

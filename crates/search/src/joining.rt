@@ -1,40 +1,24 @@
 // Found records: the one place where they are made, and how one more is joined to what is held.
-ghost use Rattle.std.specs.Prelude.{◌≡◌, ◌+◌, ◌^◌, ◌<◌};
-ghost use Rattle.elements.specs.Fields.{ElementOf};
+ghost use Rattle.std.specs.Prelude.{Some, Ok, ◌≡◌, ◌+◌, ◌^◌, ◌<◌};
 ghost use Rattle.search.specs.Search.{precedes, with_count, better, joined, found_by, candidate_of, count_of};
 ghost use Rattle.search.specs.Joining.{bound_of, Joinable};
-ghost use Rattle.search.specs.declared.answer.Search.TheVariants.{Found};
 
-use super::answer::{Best, Search};
-use elements::Decided;
+use super::answer::Best;
+use elements::Squares;
 use normal::grade_of;
 
 // The largest number of 32 bits, which no count of ones passes. The specs have it as `unbounded`.
-const UNBOUNDED: u32 = 4294967295;
+const UNBOUNDED: u32 = u32::MAX;
 
 // The found record of the normal leader a, whose table has so many ones, with this count. No other place makes one of an element.
-fn found_by(f: u64, n: u32, a: u64, ones: u32, count: u64) -> Best
-    requires { ElementOf f n a }
-    ensures { result ≡ with_count (found_by f n a ones) count }
+fn found_by(squares: &Squares, a: u64, ones: u32, count: u64) -> Best
+    requires { a < 2 ^ squares.now.n }
+    ensures { result ≡ with_count (found_by squares.now.f squares.now.n a ones) count }
 {
-    let grade = grade_of(f, n, a, ones);
     Best {
         element: a,
         complexity: ones,
-        grade,
-        count,
-    }
-}
-
-// A found record with another count.
-fn with_count(x: Best, count: u64) -> Best
-    ensures { result ≡ with_count x count }
-{
-    let grade = x.grade;
-    Best {
-        element: x.element,
-        complexity: x.complexity,
-        grade,
+        grade: grade_of(squares.f, squares.n, a, ones),
         count,
     }
 }
@@ -43,53 +27,56 @@ fn with_count(x: Best, count: u64) -> Best
 fn comes_before(c: u32, e: u64, d: u32, g: u64) -> bool
     ensures { result ≡ precedes c e d g }
 {
-    if c == d { e < g } else { c < d }
+    (c, e) < (d, g)
 }
 
 // The better of a found record and that of the normal leader a, whose table has so many ones, with the counts of both. Only a new best
 // gets its grade.
-fn better_of(f: u64, n: u32, x: Best, a: u64, ones: u32) -> Best
-    requires { ElementOf f n a × (x.count + 1 < 2 ^ 64) }
-    ensures { result ≡ better x (found_by f n a ones) }
+fn better_of(squares: &Squares, x: Best, a: u64, ones: u32) -> Best
+    requires { (a < 2 ^ squares.now.n) × (x.count + 1 < 2 ^ 64) }
+    ensures { result ≡ better x (found_by squares.now.f squares.now.n a ones) }
 {
     let count = x.count + 1;
     if comes_before(ones, a, x.complexity, x.element) {
-        found_by(f, n, a, ones, count)
+        found_by(squares, a, ones, count)
     } else {
-        with_count(x, count)
+        Best { count, ..x }
     }
 }
 
 // How many ones a table may have and still be the best: a count may be broken off above it.
-pub fn bound_of(held: Search) -> u32
-    ensures { result ≡ bound_of held }
+pub fn bound_of(held: Option<Best>) -> u32
+    ensures { result ≡ bound_of (Ok held) }
 {
     match held {
-        Search::Refused(_) => 0,
-        Search::Nothing => UNBOUNDED,
-        Search::Found(x) => x.complexity,
+        None => UNBOUNDED,
+        Some(x) => x.complexity,
     }
 }
 
 // What is held, joined with the normal leader a, whose table has so many ones.
-fn join_leader(f: u64, n: u32, held: Search, a: u64, ones: u32) -> Search
-    requires { ElementOf f n a × (count_of held + 1 < 2 ^ 64) }
-    ensures { result ≡ joined held (Found (found_by f n a ones)) }
+fn join_leader(squares: &Squares, held: Option<Best>, a: u64, ones: u32) -> Best
+    requires { (a < 2 ^ squares.now.n) × (count_of (Ok held) + 1 < 2 ^ 64) }
+    ensures { Ok (Some result) ≡ joined (Ok held) (Ok (Some (found_by squares.now.f squares.now.n a ones))) }
 {
     match held {
-        Search::Refused(number) => Search::Refused(number),
-        Search::Nothing => Search::Found(found_by(f, n, a, ones, 1)),
-        Search::Found(x) => Search::Found(better_of(f, n, x, a, ones)),
+        None => found_by(squares, a, ones, 1),
+        Some(x) => better_of(squares, x, a, ones),
     }
 }
 
-// What is held, joined with the leader a, of which it is decided whether it is normal.
-pub fn join_decided(f: u64, n: u32, held: Search, a: u64, decided: Decided) -> Search
-    requires { Joinable f n held a decided }
-    ensures { result ≡ joined held (candidate_of f n a) }
+// What is held, joined with the leader a: of so many ones, if it is normal.
+pub fn join_decided(
+    squares: &Squares,
+    held: Option<Best>,
+    a: u64,
+    decided: Option<u32>,
+) -> Option<Best>
+    requires { Joinable squares.now.f squares.now.n (Ok held) a decided }
+    ensures { Ok result ≡ joined (Ok held) (candidate_of squares.now.f squares.now.n a) }
 {
     match decided {
-        Decided::NotNormal => held,
-        Decided::Normal(ones) => join_leader(f, n, held, a, ones),
+        None => held,
+        Some(ones) => Some(join_leader(squares, held, a, ones)),
     }
 }

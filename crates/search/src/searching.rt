@@ -1,50 +1,42 @@
 // The public call search (document 01, "Search"): it judges, then walks.
 ghost use Rattle.std.specs.Prelude.{◌≡◌, ◌∷◌};
-ghost use Rattle.gf2.specs.Spread.{SpreadTable};
 ghost use Rattle.refusals.specs.Verdicts.{first_of};
 ghost use Rattle.refusals.specs.Answers.{checked_of};
 ghost use Rattle.field.specs.Accepted.{InRange};
 ghost use Rattle.field.specs.Refusals.{field_order};
 ghost use Rattle.search.specs.Answers.{range_rule, search_order, search_answer, search_report, case_report};
 
-use super::answer::Search;
+use super::answer::Best;
 use super::walking::walk;
 use field::{field_verdict, operands_verdict};
-use gf2::{degree_of, spread_table};
-use refusals::{Checked, refused};
+use gf2::{Spread, degree_of};
+use refusals::{Fault, Refusal, refused};
 
 // 12, then 2 and 3.
-fn range_verdict(spread: &[u16; 256], f: u64, n: u32, first: u64, last: u64) -> Checked
-    requires { SpreadTable spread.now × InRange f n }
+fn range_verdict(spread: &Spread, f: u64, n: u32, first: u64, last: u64) -> Result<(), Refusal>
+    requires { InRange f n }
     ensures { result ≡ checked_of (first_of (range_rule first last ∷ field_order f)) }
 {
     if last < first {
-        return refused(12);
+        return refused(Fault::EmptyRange);
     }
     field_verdict(spread, f, n)
 }
 
 // 1, 4, 12, 2, 3.
-fn search_verdict(spread: &[u16; 256], f: u64, first: u64, last: u64) -> Checked
-    requires { SpreadTable spread.now }
+fn search_verdict(spread: &Spread, f: u64, first: u64, last: u64) -> Result<(), Refusal>
     ensures { result ≡ checked_of (first_of (search_order f first last)) }
 {
-    let ends = operands_verdict(f, first, last);
-    match ends {
-        Checked::Refused(refusal) => Checked::Refused(refusal),
-        Checked::Done => range_verdict(spread, f, degree_of(f), first, last),
-    }
+    operands_verdict(f, first, last)?;
+    range_verdict(spread, f, degree_of(f), first, last)
 }
 
-// The normal class leader from first to last, both included, whose table has the fewest ones.
-pub fn search(f: u64, first: u64, last: u64) -> Search
+// The normal class leader from first to last, both included, whose table has the fewest ones, if there is one.
+pub fn search(f: u64, first: u64, last: u64) -> Result<Option<Best>, Refusal>
     ensures answer { result ≡ search_answer f first last }
     ensures report { case_report result ≡ search_report f first last }
 {
-    let spread = spread_table();
-    let verdict = search_verdict(&spread, f, first, last);
-    match verdict {
-        Checked::Refused(refusal) => Search::Refused(refusal.number),
-        Checked::Done => walk(&spread, f, degree_of(f), Search::Nothing, first, last),
-    }
+    let spread = Spread::new();
+    search_verdict(&spread, f, first, last)?;
+    Ok(walk(&spread, f, degree_of(f), None, first, last))
 }

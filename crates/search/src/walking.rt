@@ -1,119 +1,93 @@
 // The walk over a range: the elements in order, joined to what is held from before. Leaders of trace 1 alone are looked at. The first normal one
 // is found by building bases; it is then the reference through which it and all that follow are decided.
-ghost use Rattle.std.specs.Prelude.{◌≡◌, true, ◌+◌, ◌-◌, ◌^◌, ◌≤◌, ◌<◌};
-ghost use Rattle.gf2.specs.Spread.{SpreadTable};
-ghost use Rattle.elements.specs.Upper.{SquaresOf, Tables};
+ghost use Rattle.std.specs.Prelude.{Ok, ◌≡◌, true, ◌+◌, ◌-◌, ◌^◌, ◌≤◌, ◌<◌};
+ghost use Rattle.normal.specs.Normal.{normal};
+ghost use Rattle.elements.specs.Held.{f_of, n_of};
 ghost use Rattle.search.specs.Search.{leader, normal_leader, joined, candidate_of, walked, ranged, count_of};
-ghost use Rattle.search.specs.Begun.{RangeOf, PartOf, trace_leader, FirstFrom};
+ghost use Rattle.search.specs.Begun.{RangeOf, PartOf, trace_leader, FirstOf};
 
-use super::answer::Search;
+use super::answer::Best;
 use super::joining::{bound_of, join_decided};
 use super::leader::is_leader;
-use elements::{Modulus, decide, has_trace, reference_sums, square_sums, trace_mask, upper_sums};
+use elements::{Modulus, Reference, Squares, Tables};
+use gf2::Spread;
 use normal::build_basis;
-use rows::BYTE_SUMS;
 
 // Whether a is a leader of trace 1. A normal element has trace 1, so that no other can be a normal leader.
-fn is_trace_leader(squares: &[u64; BYTE_SUMS], m: Modulus, a: u64) -> bool
-    requires { SquaresOf m squares.now × (a < 2 ^ m.n) }
-    ensures { result ≡ trace_leader m.f m.n a }
+fn is_trace_leader(m: &Modulus, a: u64) -> bool
+    requires { a < 2 ^ m.now.squares.now.n }
+    ensures { result ≡ trace_leader m.now.squares.now.f m.now.squares.now.n a }
 {
-    if !has_trace(m, a) {
-        return false;
-    }
-    is_leader(squares, m.f, m.n, a)
+    m.has_trace(a) && is_leader(m.squares, a)
 }
 
-// The first leader of trace 1 from first to last; where there is none, the number after last.
-fn next_leader(squares: &[u64; BYTE_SUMS], m: Modulus, first: u64, last: u64) -> u64
-    requires { SquaresOf m squares.now × PartOf m.n first last }
-    ensures { FirstFrom m.f m.n (leader m.f m.n) first last result }
+// Whether a is normal, by its own basis.
+fn is_normal(spread: &Spread, m: &Modulus, a: u64) -> bool
+    requires { a < 2 ^ m.now.squares.now.n }
+    ensures { result ≡ normal m.now.squares.now.f m.now.squares.now.n a }
 {
-    let mut a = first;
-    while a <= last {
-        if is_trace_leader(squares, m, a) {
-            return a;
-        }
-        a += 1;
-    }
-    a
+    build_basis(spread, m.squares.f, m.squares.n, a).normal
 }
 
-// The first normal leader from first to last, by the bases of leaders; where there is none, the number after last.
-fn first_normal(
-    spread: &[u16; 256],
-    squares: &[u64; BYTE_SUMS],
-    m: Modulus,
-    first: u64,
-    last: u64,
-) -> u64
-    requires { SpreadTable spread.now × SquaresOf m squares.now × PartOf m.n first last }
-    ensures { FirstFrom m.f m.n (normal_leader m.f m.n) first last result }
+// The first normal leader from first to last, by the bases of leaders, if there is one.
+fn first_normal(spread: &Spread, m: &Modulus, first: u64, last: u64) -> Option<u64>
+    requires { PartOf m.now.squares.now.n first last }
+    ensures { FirstOf m.now.squares.now.f m.now.squares.now.n (normal_leader m.now.squares.now.f m.now.squares.now.n) first last result }
 {
-    let mut a = next_leader(squares, m, first, last);
-    while a <= last {
-        let built = build_basis(spread, m.f, m.n, a);
-        if built.normal {
-            return a;
+    for a in first..=last {
+        if is_trace_leader(m, a) && is_normal(spread, m, a) {
+            return Some(a);
         }
-        a = next_leader(squares, m, a + 1, last);
     }
-    a
+    None
 }
 
 // What is held, joined with the leader a.
-fn join_next(
-    squares: &[u64; BYTE_SUMS],
-    sums: &[u64; BYTE_SUMS],
-    uppers: &[u64; BYTE_SUMS],
-    m: Modulus,
-    held: Search,
-    a: u64,
-) -> Search
-    requires { Tables m squares.now sums.now uppers.now × (a < 2 ^ m.n) × (leader m.f m.n a ≡ true) × (count_of held ≤ a) }
-    ensures { result ≡ joined held (candidate_of m.f m.n a) }
+fn join_next(tables: &Tables, held: Option<Best>, a: u64) -> Option<Best>
+    requires element { a < 2 ^ n_of tables.now.reference }
+    requires leads { leader (f_of tables.now.reference) (n_of tables.now.reference) a ≡ true }
+    requires counts { count_of (Ok held) ≤ a }
+    ensures { Ok result ≡ joined (Ok held) (candidate_of (f_of tables.now.reference) (n_of tables.now.reference) a) }
 {
-    let decided = decide(squares, sums, uppers, m, a, bound_of(held));
-    join_decided(m.f, m.n, held, a, decided)
+    let decided = tables.decide(a, bound_of(held));
+    join_decided(tables.reference.modulus.squares, held, a, decided)
 }
 
 // What is held, joined with the elements from next to last.
-fn walk_on(
-    squares: &[u64; BYTE_SUMS],
-    sums: &[u64; BYTE_SUMS],
-    uppers: &[u64; BYTE_SUMS],
-    m: Modulus,
-    held: Search,
-    next: u64,
-    last: u64,
-) -> Search
-    requires { Tables m squares.now sums.now uppers.now × PartOf m.n next last × (count_of held ≤ next) }
-    ensures { result ≡ joined held (walked m.f m.n next (last + 1 - next)) }
+fn walk_on(tables: &Tables, held: Option<Best>, next: u64, last: u64) -> Option<Best>
+    requires { PartOf (n_of tables.now.reference) next last × (count_of (Ok held) ≤ next) }
+    ensures { Ok result ≡ joined (Ok held) (walked (f_of tables.now.reference) (n_of tables.now.reference) next (last + 1 - next)) }
 {
+    let m = tables.reference.modulus;
     let mut found = held;
-    let mut y = next_leader(squares, m, next, last);
-    while y <= last {
-        let more = join_next(squares, sums, uppers, m, found, y);
-        found = more;
-        y = next_leader(squares, m, y + 1, last);
+    for y in next..=last {
+        if is_trace_leader(&m, y) {
+            found = join_next(tables, found, y);
+        }
     }
     found
 }
 
 // What is held, joined with the answer over the elements from first to last.
-pub fn walk(spread: &[u16; 256], f: u64, n: u32, held: Search, first: u64, last: u64) -> Search
-    requires { SpreadTable spread.now × RangeOf f n first last × (count_of held ≤ first) }
-    ensures { result ≡ joined held (ranged f n first last) }
+pub fn walk(
+    spread: &Spread,
+    f: u64,
+    n: u32,
+    held: Option<Best>,
+    first: u64,
+    last: u64,
+) -> Option<Best>
+    requires { RangeOf f n first last × (count_of (Ok held) ≤ first) }
+    ensures { Ok result ≡ joined (Ok held) (ranged f n first last) }
 {
-    let squares = square_sums(spread, f, n);
-    let mask = trace_mask(&squares, f, n);
-    let m = Modulus { f, n, mask };
-    let b = first_normal(spread, &squares, m, first, last);
-    if last < b {
-        return held;
+    let squares = Squares::new(spread, f, n);
+    let m = Modulus::new(&squares);
+    match first_normal(spread, &m, first, last) {
+        None => held,
+        Some(b) => {
+            let reference = Reference::new(spread, m, b);
+            let tables = Tables::new(reference);
+            walk_on(&tables, held, b, last)
+        }
     }
-    let mut sums: [u64; BYTE_SUMS] = [0; BYTE_SUMS];
-    reference_sums(spread, f, n, b, &mut sums);
-    let uppers = upper_sums(&sums, f, n);
-    walk_on(&squares, &sums, &uppers, m, held, b, last)
 }

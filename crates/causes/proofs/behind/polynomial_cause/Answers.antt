@@ -1,16 +1,18 @@
--- `causes::behind::polynomial_cause` meets its contract: the number decides.
+-- `causes::behind::polynomial_cause` meets its contract: the row of the table decides.
 -- Assumes nothing.
+use Rattle.refusals.specs.Telling.{same_fault}
+use Rattle.refusals.specs.declared.fault.Fault.TheVariants as faults
 use Rattle.causes.specs.Cases.{polynomial-divisor, polynomial_became, polynomial-alone}
 use Rattle.causes.proofs.behind.polynomial_cause.Goals as goal
 
-pub returns-then-refusal-eq2 : goal.returns-then-refusal-eq2
-returns-then-refusal-eq2 c =
-    polynomial-divisor c.args.f c.args.n c.args.refusal c.if-refusal-eq2.true c.smallest_divisor.ensures
+pub returns-in-Divided : goal.returns-in-Divided
+returns-in-Divided c = polynomial-divisor c.args.f c.args.n c.args.refusal c.in-Divided.is c.smallest_divisor.ensures
 
-pub returns-then-refusal-eq3 : goal.returns-then-refusal-eq3
-returns-then-refusal-eq3 c =
-    polynomial_became c.args.f c.args.n c.args.refusal c.if-refusal-eq2.false c.if-refusal-eq3.true c.x_squared.ensures
+pub returns-in-Strays : goal.returns-in-Strays
+returns-in-Strays c = polynomial_became c.args.f c.args.n c.args.refusal c.in-Strays.is c.x_squared.ensures
 
-pub returns : goal.returns
-returns c =
-    polynomial-alone c.args.f c.args.n c.args.refusal c.if-refusal-eq2.false c.if-refusal-eq3.false
+pub returns-in_default : goal.returns-in_default
+returns-in_default c =
+    polynomial-alone c.args.f c.args.n c.args.refusal
+    (λ e. c.in_default.not-Divided (same_fault c.args.refusal.fault faults.Divided e))
+    (λ e. c.in_default.not-Strays (same_fault c.args.refusal.fault faults.Strays e))

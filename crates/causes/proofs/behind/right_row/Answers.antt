@@ -10,7 +10,7 @@ build_basis-requires c =
     let f = c.args.f in
     let n = c.args.n in
     let a = c.args.element in
-    (c.spread_table-spread.ensures, based-most f n a c.requires.0, record { is_degree = based-degree f n a c.requires.0; below = c.requires.0.below })
+    (based-most f n a c.requires.0, record { is_degree = based-degree f n a c.requires.0; below = c.requires.0.below })
 
 pub bounds-basis-i : goal.bounds-basis-i
 bounds-basis-i c = omega (arith, c.requires.1, based-most c.args.f c.args.n c.args.element c.requires.0)

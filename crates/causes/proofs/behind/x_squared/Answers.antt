@@ -5,4 +5,4 @@ use Rattle.causes.proofs.behind.x_squared.Goals as goal
 
 pub squared_times-requires : goal.squared_times-requires
 squared_times-requires c =
-    (c.spread_table-spread.ensures, record { in_range = c.requires; small = two-lt c.args.n c.requires.two })
+    (record { in_range = c.requires; small = two-lt c.args.n c.requires.two })

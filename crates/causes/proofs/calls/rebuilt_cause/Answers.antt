@@ -4,6 +4,8 @@ use mathlib.Core.Path.{◌≡◌, refl, ap, ap₂, ◌∙◌}
 use mathlib.Core.List.{List}
 use Prim.Native.Nat.{ℕ}
 use native.Mathlib.Omega.{arith}
+use Rattle.refusals.specs.Telling.{same_fault}
+use Rattle.refusals.specs.declared.fault.Fault.TheVariants as faults
 use Rattle.sheet.specs.Record.{record_count, conjugate_in, sheet_bytes}
 use Rattle.sheet.specs.Orders.{rebuilt_from}
 use Rattle.sheet.proofs.Issuing.{shaped-based}
@@ -24,33 +26,33 @@ basis_cause-requires c =
       λ k. rw (c.polynomial_of-f.ensures, ea) (rebuild_dependent sheet c.args.refusal.place (rw k at c.requires.1)),
     )
 
-pub returns-then-refusal-ne10 : goal.returns-then-refusal-ne10
-returns-then-refusal-ne10 c =
+pub returns-in_default : goal.returns-in_default
+returns-in_default c =
     let sheet = c.args.sheet.now in
-    sheet_basis sheet c.args.refusal c.if-refusal-ne10.true
+    sheet_basis sheet c.args.refusal (λ e. c.in_default.not-Differs (same_fault c.args.refusal.fault faults.Differs e))
     (c.basis_cause.ensures
-    ∙ ap₂ (λ (f a : ℕ). basis_cause f (record_count sheet) a c.args.refusal.number c.args.refusal.place) c.polynomial_of-f.ensures (ap (λ (r : Row). r.conjugate) c.row_at-first.ensures))
+    ∙ ap₂ (λ (f a : ℕ). basis_cause f (record_count sheet) a c.args.refusal.fault c.args.refusal.place) c.polynomial_of-f.ensures (ap (λ (r : Row). r.conjugate) c.row_at-first.ensures))
 
 pub right_row-right-requires : goal.right_row-right-requires
 right_row-right-requires c =
     let sheet = c.args.sheet.now in
-    let d = rebuild-differs sheet c.args.refusal.place (rw c.if-refusal-ne10.false at c.requires.1) in
+    let d = rebuild-differs sheet c.args.refusal.place (rw c.in-Differs.is at c.requires.1) in
     (rw (c.polynomial_of-f.ensures, c.row_at-first.ensures) (shaped-based sheet c.requires.0 d.0), differ-place sheet (rebuilt_from sheet) (record_count sheet) c.args.refusal.place d.1)
 
 pub row_at-requires : goal.row_at-requires
 row_at-requires c =
     let sheet = c.args.sheet.now in
-    let d = rebuild-differs sheet c.args.refusal.place (rw c.if-refusal-ne10.false at c.requires.1) in
+    let d = rebuild-differs sheet c.args.refusal.place (rw c.in-Differs.is at c.requires.1) in
     omega (arith, differ-place sheet (rebuilt_from sheet) (record_count sheet) c.args.refusal.place d.1, c.requires.0.size.whole)
 
-pub returns : goal.returns
+pub returns-in-Differs : goal.returns-in-Differs
 unfolding difference_in
-returns c =
+returns-in-Differs c =
     let sheet = c.args.sheet.now in
     let i = c.args.refusal.place in
     let ea : c.row_at-first.result.conjugate ≡ conjugate_in sheet 0 = ap (λ (r : Row). r.conjugate) c.row_at-first.ensures in
     let same : sheet_bytes c.polynomial_of-f.result (record_count sheet) c.row_at-first.result.conjugate ≡ rebuilt_from sheet =
     rebuilt_sheet sheet c.polynomial_of-f.result (record_count sheet) c.row_at-first.result.conjugate
     (record { shaped = c.requires.0; polynomial = c.polynomial_of-f.ensures; count = refl; conjugate = ea }) in
-    sheet-differs sheet c.args.refusal c.if-refusal-ne10.false
+    sheet-differs sheet c.args.refusal c.in-Differs.is
     (c.difference_of.ensures ∙ ap₂ (difference_of i) c.row_at.ensures (c.right_row-right.ensures ∙ ap (λ (l : List ℕ). row_of l i) same))

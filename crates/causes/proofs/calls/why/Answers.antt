@@ -14,18 +14,18 @@ pub sheet_cause-requires : goal.sheet_cause-requires
 unfolding read_answer
 sheet_cause-requires c =
     let sheet = c.args.sheet.now in
-    refused_verdict (first_of (read_order sheet)) (summary_in sheet) (sym c.read.ensures.answer ∙ c.in-Refused.is)
+    refused_verdict (first_of (read_order sheet)) (summary_in sheet) (sym c.read.ensures.answer ∙ c.in-Err.is)
 
-pub returns-in-Refused : goal.returns-in-Refused
+pub returns-in-Err : goal.returns-in-Err
 unfolding read_answer why_answer
-returns-in-Refused c =
+returns-in-Err c =
     let sheet = c.args.sheet.now in
     let whole = why-promised sheet
-    (cause-refused (sheet_cause sheet) (refused_verdict (first_of (read_order sheet)) (summary_in sheet) (sym c.read.ensures.answer ∙ c.in-Refused.is)) c.sheet_cause.ensures) in record { answer = whole.0; report = whole.1 }
+    (cause-refused (sheet_cause sheet) (refused_verdict (first_of (read_order sheet)) (summary_in sheet) (sym c.read.ensures.answer ∙ c.in-Err.is)) c.sheet_cause.ensures) in record { answer = whole.0; report = whole.1 }
 
-pub returns-in-Done : goal.returns-in-Done
+pub returns-in-Ok : goal.returns-in-Ok
 unfolding read_answer why_answer
-returns-in-Done c =
+returns-in-Ok c =
     let sheet = c.args.sheet.now in
     let whole = why-promised sheet
-    (cause-accepted (sheet_cause sheet) (done-clear (first_of (read_order sheet)) (summary_in sheet) _ (sym c.read.ensures.answer ∙ c.in-Done.is))) in record { answer = whole.0; report = whole.1 }
+    (cause-accepted (sheet_cause sheet) (done-clear (first_of (read_order sheet)) (summary_in sheet) _ (sym c.read.ensures.answer ∙ c.in-Ok.is))) in record { answer = whole.0; report = whole.1 }

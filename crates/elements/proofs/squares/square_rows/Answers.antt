@@ -13,31 +13,26 @@ unfolding square_rows
 done f n i rows p q small s = let e : i ≡ n = omega arith in filled_padded rows n (row f n) small (rw e at s)
 
 pub loop-i-init : goal.loop-i-init
-loop-i-init c = (omega arith, filled_start (row c.args.f c.args.n))
+loop-i-init c = filled_start (row c.args.f c.args.n)
 
 pub power-requires : goal.power-requires
-power-requires c = omega (arith, c.requires.1.most)
+power-requires c = omega (arith, c.requires.most)
 
 pub square-requires : goal.square-requires
 square-requires c =
-    (c.requires.0, record { is_degree = c.requires.1.is_degree; below = rw c.power.ensures (pow-lt c.loop-i-test.true) })
+    (record { is_degree = c.requires.is_degree; below = rw c.power.ensures (pow-lt c.loop-i-test.true) })
 
 pub offset_bounds-rows-i : goal.offset_bounds-rows-i
-offset_bounds-rows-i c = omega (arith, c.requires.1.most)
+offset_bounds-rows-i c = omega (arith, c.requires.most)
 
 pub bounds-rows-i : goal.bounds-rows-i
-bounds-rows-i c = omega (arith, c.requires.1.most)
-
-pub overflow_add-i : goal.overflow_add-i
-overflow_add-i c = omega (arith, c.requires.1.most)
+bounds-rows-i c = omega (arith, c.requires.most)
 
 pub loop-i-preserved : goal.loop-i-preserved
-loop-i-preserved c = (
-  omega arith,
-  filled_turn c.loop-i.rows c.loop-i.i c.square.result (row c.args.f c.args.n) (omega (arith, c.requires.1.most))
-      (c.square.ensures ∙ ap (λ (y : ℕ). mul_mod c.args.f c.args.n y y) c.power.ensures) c.loop-i.invariant.1,
-)
+loop-i-preserved c =
+    filled_turn c.loop-i.rows c.loop-i.i c.square.result (row c.args.f c.args.n) (omega (arith, c.requires.most))
+    (c.square.ensures ∙ ap (λ (y : ℕ). mul_mod c.args.f c.args.n y y) c.power.ensures) c.loop-i.invariant
 
 pub returns : goal.returns
 returns c =
-    done c.args.f c.args.n c.loop-i.i c.loop-i.rows c.loop-i.invariant.0 c.loop-i-test.false c.requires.1.most c.loop-i.invariant.1
+    done c.args.f c.args.n c.loop-i.i c.loop-i.rows c.loop-i.auto.i-end c.loop-i-test.false c.requires.most c.loop-i.invariant

@@ -1,6 +1,6 @@
--- `elements::squares::square_rows` meets its contract. The invariant: the rows below i are filled. The measure is what is left of n.
+-- `elements::squares::square_rows` meets its contract. The invariant: the rows below i are filled.
 -- Assumes nothing.
-use Rattle.std.proofs.Common.{ℕ, ◌-◌, ◌^◌, ◌≤◌}
+use Rattle.std.proofs.Common.{ℕ, ◌^◌}
 use Rattle.gf2.specs.Poly.{mul_mod}
 use Rattle.normal.specs.Filling.{Filled}
 use Rattle.elements.proofs.squares.square_rows.Given as goal
@@ -10,7 +10,4 @@ abbrev pub row : (f n i : ℕ) → ℕ
 row f n i = mul_mod f n (2 ^ i) (2 ^ i)
 
 abbrev pub invariant-loop-i : goal.invariant-loop-i
-invariant-loop-i l = (l.i ≤ l.n) × Filled l.rows l.i (row l.f l.n)
-
-abbrev pub decreases-loop-i : goal.decreases-loop-i
-decreases-loop-i l = l.n - l.i
+invariant-loop-i l = Filled l.rows l.i (row l.f l.n)

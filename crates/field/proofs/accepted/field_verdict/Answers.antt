@@ -9,18 +9,31 @@ use Rattle.gf2.specs.Poly.{Degree}
 use Rattle.gf2.specs.Degrees.{degree-eq}
 use Rattle.refusals.specs.Answers.{checked_of}
 use Rattle.refusals.specs.Answered.{answer-clear}
-use Rattle.refusals.specs.declared.answer.Checked.TheVariants as checked
 use Rattle.field.specs.Field.{squared}
 use Rattle.field.specs.Accepted.{divided, strays}
 use Rattle.field.specs.Orders.{field-divided, field-strays, field_passed}
 use Rattle.field.specs.Ring.{two-lt}
 use Rattle.field.specs.Frobenius.{squared-lt, squared-add}
 use Rattle.field.proofs.accepted.field_verdict.Goals as goal
+use Rattle.std.specs.Prelude.{refl, Bool, Err, Some, None}
+use Rattle.refusals.specs.Answers.{passed}
 
-module _ (f n : ℕ) (deg : Degree f n) (e : divided f n ≡ false) (y : ℕ) (ey : y ≡ cond (divided f n) 0 (squared f n (n / 2) 2)) where
-  half : y ≡ squared f n (n / 2) 2
-  half = ey ∙ rw e
+-- what half way through the squarings says of f
+some-half : (f n y : ℕ) → cond (divided f n) None (Some (squared f n (n / 2) 2)) ≡ Some y → (divided f n ≡ false) × (y ≡ squared f n (n / 2) 2)
+some-half f n y = go (divided f n)
+  where
+    go : (b : Bool) → cond b None (Some (squared f n (n / 2) 2)) ≡ Some y → (b ≡ false) × (y ≡ squared f n (n / 2) 2)
+    go true e = grind (arith, e)
+    go false e = (refl, cc e)
 
+none-half : (f n : ℕ) → cond (divided f n) None (Some (squared f n (n / 2) 2)) ≡ None → divided f n ≡ true
+none-half f n = go (divided f n)
+  where
+    go : (b : Bool) → cond b None (Some (squared f n (n / 2) 2)) ≡ None → b ≡ true
+    go true e = refl
+    go false e = grind (arith, e)
+
+module _ (f n : ℕ) (deg : Degree f n) (y : ℕ) (half : y ≡ squared f n (n / 2) 2) where
   half_lt : 2 ≤ n → y < 2 ^ n
   half_lt big = rw half (squared-lt f n deg (n / 2) 2 (two-lt n big))
 
@@ -38,37 +51,30 @@ module _ (f n : ℕ) (deg : Degree f n) (e : divided f n ≡ false) (y : ℕ) (e
     unfolding strays
     strayed p = rw (ne_eqb (squared f n n 2) 2 (λ q. p (whole ∙ q)))
 
-pub returns-then-half : goal.returns-then-half
-returns-then-half c =
+pub returns-in_default : goal.returns-in_default
+returns-in_default c =
     c.refused.ensures
-    ∙ ap checked_of (sym (field-divided c.args.f c.args.n (degree-eq _ _ c.requires.1.is_degree) (sym c.squared_half-half.ensures.0 ∙ c.if-half.true)))
+    ∙ ap checked_of (sym (field-divided c.args.f c.args.n (degree-eq _ _ c.requires.is_degree) (none-half c.args.f c.args.n (sym c.squared_half.ensures ∙ c.in_default.is))))
 
 pub squared_times-requires : goal.squared_times-requires
-squared_times-requires c = (
-  c.requires.0,
-  record {
-    in_range = c.requires.1;
-    small =
-        omega (
-          arith,
-          half_lt c.args.f c.args.n c.requires.1.is_degree (sym c.squared_half-half.ensures.0 ∙ c.if-half.false) c.squared_half-half.result.conjugate c.squared_half-half.ensures.1 c.requires.1.two,
-          two-lt c.args.n c.requires.1.two,
-        );
-  },
-)
+squared_times-requires c =
+    let s = some-half c.args.f c.args.n c.in-Some.half (sym c.squared_half.ensures ∙ c.in-Some.is) in record {
+      in_range = c.requires;
+      small = half_lt c.args.f c.args.n c.requires.is_degree c.in-Some.half s.1 c.requires.two;
+    }
 
 pub returns-then-squared_times-ne2 : goal.returns-then-squared_times-ne2
 returns-then-squared_times-ne2 c =
-    let e = sym c.squared_half-half.ensures.0 ∙ c.if-half.false in
+    let s = some-half c.args.f c.args.n c.in-Some.half (sym c.squared_half.ensures ∙ c.in-Some.is) in
     c.refused-then-squared_times-ne2.ensures
     ∙ ap checked_of
     (sym
-    (field-strays c.args.f c.args.n (degree-eq _ _ c.requires.1.is_degree) e
-    (strayed c.args.f c.args.n c.requires.1.is_degree e _ c.squared_half-half.ensures.1 c.squared_times.result c.squared_times.ensures c.if-squared_times-ne2.true)))
+    (field-strays c.args.f c.args.n (degree-eq _ _ c.requires.is_degree) s.0
+    (strayed c.args.f c.args.n c.requires.is_degree c.in-Some.half s.1 c.squared_times.result c.squared_times.ensures c.if-squared_times-ne2.true)))
 
 pub returns : goal.returns
 returns c =
-    let e = sym c.squared_half-half.ensures.0 ∙ c.if-half.false in
-    answer-clear checked.Refused checked.Done
-    (field_passed c.args.f c.args.n (degree-eq _ _ c.requires.1.is_degree) e
-    (came-back c.args.f c.args.n c.requires.1.is_degree e _ c.squared_half-half.ensures.1 c.squared_times.result c.squared_times.ensures c.if-squared_times-ne2.false))
+    let s = some-half c.args.f c.args.n c.in-Some.half (sym c.squared_half.ensures ∙ c.in-Some.is) in
+    answer-clear Err passed
+    (field_passed c.args.f c.args.n (degree-eq _ _ c.requires.is_degree) s.0
+    (came-back c.args.f c.args.n c.requires.is_degree c.in-Some.half s.1 c.squared_times.result c.squared_times.ensures c.if-squared_times-ne2.false))

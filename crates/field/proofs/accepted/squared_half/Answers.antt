@@ -1,6 +1,8 @@
 -- `field::accepted::squared_half` meets its contract: the goals that the check leaves. Its loop is told in `Invariants.antt`. Assumes nothing.
-use mathlib.Core.Path.{◌≡◌, sym}
-use mathlib.Core.Bool.{true, false, cond}
+use mathlib.Core.Path.{◌≡◌, refl}
+use Rattle.std.specs.Prelude.{Some, None}
+use Rattle.std.proofs.Common.{rules}
+use mathlib.Core.Bool.{true, cond}
 use Prim.Native.Nat.{ℕ, ◌+◌, ◌/◌, ◌^◌, ◌≤◌, ◌<◌}
 use native.Mathlib.Omega.{arith}
 use lib.Bits.{bit_xor}
@@ -26,50 +28,46 @@ module _ (f n : ℕ) (deg : Degree f n) (big : 2 ≤ n) (i y : ℕ) (test : i < 
     unfolding ◌⊕◌
     common = rw next at s
 
-    found : (g ≡ 1 → ⊥) → (true ≡ divided f n) × (0 ≡ cond (divided f n) 0 (squared f n (n / 2) 2))
+    found : (g ≡ 1 → ⊥) → None ≡ cond (divided f n) None (Some (squared f n (n / 2) 2))
     found ne =
         let e : divided f n ≡ true = divided-found f n deg big (i + 1) g (omega arith) (omega arith) common ne in
-        (sym e, rw e)
+        rw e
 
-    again : g ≡ 1 → NoneTo f n i → (i + 1 ≤ n / 2) × (z ≡ squared f n (i + 1) 2) × NoneTo f n (i + 1)
-    again e none = (omega arith, next, none-to-next f n deg i g (omega arith) none common e)
+    again : g ≡ 1 → NoneTo f n i → (z ≡ squared f n (i + 1) 2) × NoneTo f n (i + 1)
+    again e none = (next, none-to-next f n deg i g (omega arith) none common e)
 
-done : (f n : ℕ) → Degree f n → 2 ≤ n → (i y : ℕ) → n / 2 ≤ i → (i ≤ n / 2) × (y ≡ squared f n i 2) × NoneTo f n i
-    → (false ≡ divided f n) × (y ≡ cond (divided f n) 0 (squared f n (n / 2) 2))
-done f n deg big i y h inv =
-    let e : divided f n ≡ false = divided-none f n deg big i h inv.2 in
-    let s : i ≡ n / 2 = omega (arith, inv.0) in
-    (sym e, rw (e, ← s) inv.1)
+done : (f n : ℕ) → Degree f n → 2 ≤ n → (y : ℕ) → y ≡ squared f n (n / 2) 2 → NoneTo f n (n / 2)
+    → Some y ≡ cond (divided f n) None (Some (squared f n (n / 2) 2))
+done f n deg big y ey none = rw (divided-none f n deg big (n / 2) (omega arith) none, ey) refl
 
 f-pos : (f n : ℕ) → Degree f n → 0 < f
 f-pos f n deg = omega (arith, deg.low, pow_pos n)
 
-pub loop-i-init : goal.loop-i-init
-loop-i-init c =
-    (omega arith, squared_start c.args.f c.args.n 2, none-to-zero c.args.f c.args.n c.requires.1.is_degree)
+pub loop-init : goal.loop-init
+loop-init c =
+    (squared_start c.args.f c.args.n 2, none-to-zero c.args.f c.args.n c.requires.is_degree)
 
 pub square-y-requires : goal.square-y-requires
-square-y-requires c = (
-  c.requires.0,
-  record {
-    is_degree = c.requires.1.is_degree;
-    below = y-lt c.args.f c.args.n c.requires.1.is_degree c.requires.1.two c.loop-i.i c.loop-i.y c.loop-i-test.true c.loop-i.invariant.1;
-  },
-)
+square-y-requires c = record {
+  is_degree = c.requires.is_degree;
+  below = y-lt c.args.f c.args.n c.requires.is_degree c.requires.two c.loop.counter c.loop.y c.loop-test.true c.loop.invariant.0;
+}
 
 pub greatest_common-requires : goal.greatest_common-requires
-greatest_common-requires c = f-pos c.args.f c.args.n c.requires.1.is_degree
+greatest_common-requires c = f-pos c.args.f c.args.n c.requires.is_degree
 
 pub returns-then-greatest_common-ne1 : goal.returns-then-greatest_common-ne1
 returns-then-greatest_common-ne1 c =
-    found c.args.f c.args.n c.requires.1.is_degree c.requires.1.two c.loop-i.i c.loop-i.y c.loop-i-test.true c.loop-i.invariant.1
+    found c.args.f c.args.n c.requires.is_degree c.requires.two c.loop.counter c.loop.y c.loop-test.true c.loop.invariant.0
     c.square-y.result c.greatest_common.result c.square-y.ensures c.greatest_common.ensures c.if-greatest_common-ne1.true
 
-pub loop-i-preserved : goal.loop-i-preserved
-loop-i-preserved c =
-    again c.args.f c.args.n c.requires.1.is_degree c.requires.1.two c.loop-i.i c.loop-i.y c.loop-i-test.true c.loop-i.invariant.1
-    c.square-y.result c.greatest_common.result c.square-y.ensures c.greatest_common.ensures c.if-greatest_common-ne1.false c.loop-i.invariant.2
+pub loop-preserved : goal.loop-preserved
+loop-preserved c =
+    again c.args.f c.args.n c.requires.is_degree c.requires.two c.loop.counter c.loop.y c.loop-test.true c.loop.invariant.0
+    c.square-y.result c.greatest_common.result c.square-y.ensures c.greatest_common.ensures c.if-greatest_common-ne1.false c.loop.invariant.1
 
 pub returns : goal.returns
 returns c =
-    done c.args.f c.args.n c.requires.1.is_degree c.requires.1.two c.loop-i.i c.loop-i.y c.loop-i-test.false c.loop-i.invariant
+    let s : c.loop.counter ≡ c.args.n / 2 = search rules in
+    let inv : (c.loop.y ≡ squared c.args.f c.args.n (c.args.n / 2) 2) × NoneTo c.args.f c.args.n (c.args.n / 2) = rw s at c.loop.invariant in
+    done c.args.f c.args.n c.requires.is_degree c.requires.two c.loop.y inv.0 inv.1

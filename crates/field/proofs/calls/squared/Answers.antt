@@ -11,7 +11,7 @@ element_of-requires c = c.requires.is_degree
 
 pub square-requires : goal.square-requires
 square-requires c =
-    (c.spread_table-table.ensures, rem-element c.args.f c.args.n c.requires.is_degree c.args.a c.element_of.ensures)
+    (rem-element c.args.f c.args.n c.requires.is_degree c.args.a c.element_of.ensures)
 
 pub returns : goal.returns
 returns c = c.square.ensures ∙ ap (λ (x : ℕ). mul_mod c.args.f c.args.n x x) c.element_of.ensures

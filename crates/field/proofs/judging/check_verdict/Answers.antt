@@ -13,7 +13,7 @@ returns-then-degree_outside c =
 
 pub field_verdict-requires : goal.field_verdict-requires
 field_verdict-requires c =
-    (c.requires, in_range c.args.f c.degree_of.result c.degree_of.ensures (sym c.degree_outside.ensures ∙ c.if-degree_outside.false))
+    (in_range c.args.f c.degree_of.result c.degree_of.ensures (sym c.degree_outside.ensures ∙ c.if-degree_outside.false))
 
 pub returns : goal.returns
 returns c =

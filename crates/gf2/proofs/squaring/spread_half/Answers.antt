@@ -1,5 +1,5 @@
 -- `gf2::squaring::spread_half` meets its contract: the goals that the check leaves. Its loop is told in `Invariants.antt`. Assumes nothing.
-use Rattle.std.proofs.Common.{◌≡◌, ℕ, zero, suc, ◌+◌, ◌-◌, ◌*◌, ◌/◌, ◌%◌, ◌^◌, ◌<◌, ◌≤◌, refl, get_or, sym, ap, ◌∙◌, div-one, arith, pow_mono, shl_exact, shr_lt, mod-lt}
+use Rattle.std.proofs.Common.{◌≡◌, ℕ, zero, suc, ◌+◌, ◌-◌, ◌*◌, ◌/◌, ◌%◌, ◌^◌, ◌<◌, ◌≤◌, refl, get_or, sym, ap, ◌∙◌, div-one, arith, pow_mono, shl_exact, shr_lt}
 use Rattle.std.specs.Int.{bytes_high_first}
 use native.Mathlib.Nat.{div-eq_of_lt}
 use lib.Bits.{bit_xor}
@@ -43,5 +43,5 @@ loop-byte-preserved c =
     let next : 8 * (4 - (i + 1)) ≡ k - 8 = omega arith in
     let byte : get_or c.to_be_bytes-byte-items.result i 0 ≡ c.args.half / 2 ^ (k - 8) % 256 =
     ap (λ xs. get_or xs i 0) c.to_be_bytes-byte-items.ensures ∙ high_byte c.args.half i more in
-    let entry = c.from.ensures ∙ ap (λ b. get_or c.args.table.now b 0) byte ∙ c.requires.rule _ (mod-lt _ (omega arith)) in
-    rw next (turn c.args.half k c.loop-byte.sum c.from.result c.ranges.half.fits (omega arith) c.loop-byte.invariant entry)
+    let entry = c.of_byte.ensures ∙ ap spread byte in
+    rw next (turn c.args.half k c.loop-byte.sum c.of_byte.result c.ranges.half.fits (omega arith) c.loop-byte.invariant entry)

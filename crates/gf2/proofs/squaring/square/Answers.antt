@@ -13,7 +13,7 @@ use Rattle.gf2.proofs.squaring.square.Goals as goal
 
 -- f stands in a word
 word : (c : Start) → c.args.n < 64
-word c = degree-lt c.args.f c.args.n 64 c.requires.1.is_degree c.ranges.f.fits
+word c = degree-lt c.args.f c.args.n 64 c.requires.is_degree c.ranges.f.fits
 
 spread-square : (f n a : ℕ) → rem f n (spread a) ≡ mul_mod f n a a
 unfolding mul_mod
@@ -51,12 +51,12 @@ module _ (f n a : ℕ) (el : Element f n a) (low : ℕ) (el-low : low ≡ spread
 
 pub remainder-requires : goal.remainder-requires
 remainder-requires c =
-    (omega arith, c.requires.1.is_degree, low_fits c.args.f c.args.n c.args.a c.requires.1 c.spread_half-low.result c.spread_half-low.ensures c.if-n-le32.true)
+    (omega arith, c.requires.is_degree, low_fits c.args.f c.args.n c.args.a c.requires c.spread_half-low.result c.spread_half-low.ensures c.if-n-le32.true)
 
 pub returns-then-n-le32 : goal.returns-then-n-le32
 returns-then-n-le32 c =
     c.remainder.ensures
-    ∙ ap (rem c.args.f c.args.n) (low-whole c.args.f c.args.n c.args.a c.requires.1 c.spread_half-low.result c.spread_half-low.ensures c.if-n-le32.true)
+    ∙ ap (rem c.args.f c.args.n) (low-whole c.args.f c.args.n c.args.a c.requires c.spread_half-low.result c.spread_half-low.ensures c.if-n-le32.true)
     ∙ spread-square c.args.f c.args.n c.args.a
 
 pub overflow_sub-n : goal.overflow_sub-n
@@ -71,15 +71,15 @@ raised-moved-requires c =
       omega arith,
       omega (arith, word (goal.at.raised-moved-requires c).Start),
       omega arith,
-      high_fits c.args.f c.args.n c.args.a c.requires.1 c.spread_half-low.result c.spread_half-low.ensures long c.spread_half-high.result c.spread_half-high.ensures,
+      high_fits c.args.f c.args.n c.args.a c.requires c.spread_half-low.result c.spread_half-low.ensures long c.spread_half-high.result c.spread_half-high.ensures,
     )
 
 pub remainder-requires-2 : goal.remainder-requires-2
 remainder-requires-2 c =
     let long : 32 < c.args.n = omega arith in (
       omega arith,
-      c.requires.1.is_degree,
-      joined-lt c.args.f c.args.n c.args.a c.requires.1 c.spread_half-low.result c.spread_half-low.ensures long c.spread_half-high.result c.spread_half-high.ensures
+      c.requires.is_degree,
+      joined-lt c.args.f c.args.n c.args.a c.requires c.spread_half-low.result c.spread_half-low.ensures long c.spread_half-high.result c.spread_half-high.ensures
           _ c.raised-moved.result (mod-lt _ (pow_pos 64)) c.raised-moved.ensures,
     )
 
@@ -88,7 +88,7 @@ returns c =
     let long : 32 < c.args.n = omega arith in
     c.remainder-2.ensures
     ∙ ap (rem c.args.f c.args.n)
-    (joined c.args.f c.args.n c.args.a c.requires.1 c.spread_half-low.result c.spread_half-low.ensures long c.spread_half-high.result c.spread_half-high.ensures
+    (joined c.args.f c.args.n c.args.a c.requires c.spread_half-low.result c.spread_half-low.ensures long c.spread_half-high.result c.spread_half-high.ensures
     _ c.raised-moved.result (mod-lt _ (pow_pos 64)) c.raised-moved.ensures)
-    ∙ rem-raised-first c.args.f c.args.n (64 - c.args.n) (spread c.args.a) c.requires.1.is_degree (omega (arith, word (goal.at.returns c).Start))
+    ∙ rem-raised-first c.args.f c.args.n (64 - c.args.n) (spread c.args.a) c.requires.is_degree (omega (arith, word (goal.at.returns c).Start))
     ∙ spread-square c.args.f c.args.n c.args.a

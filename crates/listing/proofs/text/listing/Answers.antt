@@ -15,19 +15,19 @@ put_cause-requires c = omega (arith, refused_fits, c.put_refused-at.ensures.shor
 
 pub put_rows-at-requires : goal.put_rows-at-requires
 put_rows-at-requires c =
-    let z = (done-shaped c.args.sheet.now c.in-Done.summary (sym c.read.ensures.answer ∙ c.in-Done.is)).size in
+    let z = (done-shaped c.args.sheet.now c.in-Ok.summary (sym c.read.ensures.answer ∙ c.in-Ok.is)).size in
     (z.most, omega (arith, rows_fit _ z.most), omega arith)
 
 pub put_last-requires : goal.put_last-requires
 put_last-requires c =
-    let z = (done-shaped c.args.sheet.now c.in-Done.summary (sym c.read.ensures.answer ∙ c.in-Done.is)).size in
+    let z = (done-shaped c.args.sheet.now c.in-Ok.summary (sym c.read.ensures.answer ∙ c.in-Ok.is)).size in
     omega (arith, rows_fit _ z.most, c.put_rows-at.ensures.short, put-length c.put_rows-at.ensures.put)
 
-pub returns-in-Refused : goal.returns-in-Refused
-returns-in-Refused c =
-    let whole = listed-refused c.args.sheet.now c.in-Refused.refusal (sym c.read.ensures.answer ∙ c.in-Refused.is)
-    c.put_refused-at.ensures.put c.why.ensures.answer c.put_cause.ensures.put in record { size = whole.0; listed = whole.1.0; counted = whole.1.1 }
+pub returns-in-Err : goal.returns-in-Err
+returns-in-Err c =
+    let whole = listed-refused c.args.sheet.now c.in-Err.refusal (sym c.read.ensures.answer ∙ c.in-Err.is)
+    (rw c.number.ensures at c.put_refused-at.ensures.put) c.why.ensures.answer c.put_cause.ensures.put in record { size = whole.0; listed = whole.1.0; counted = whole.1.1 }
 
-pub returns-in-Done : goal.returns-in-Done
-returns-in-Done c =
-    let whole = listed-done c.args.sheet.now c.in-Done.summary (sym c.read.ensures.answer ∙ c.in-Done.is) c.put_rows-at.ensures.put c.put_last.ensures in record { size = whole.0; listed = whole.1.0; counted = whole.1.1 }
+pub returns-in-Ok : goal.returns-in-Ok
+returns-in-Ok c =
+    let whole = listed-done c.args.sheet.now c.in-Ok.summary (sym c.read.ensures.answer ∙ c.in-Ok.is) c.put_rows-at.ensures.put c.put_last.ensures in record { size = whole.0; listed = whole.1.0; counted = whole.1.1 }

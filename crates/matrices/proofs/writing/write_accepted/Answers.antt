@@ -3,6 +3,10 @@
 use Prim.Native.Nat.{◌≤◌}
 use native.Mathlib.Omega.{arith}
 use lib.ListN.{length}
+use Rattle.std.proofs.Common.{ap, ◌∙◌}
+use Rattle.std.specs.Prelude.{Err}
+use Rattle.refusals.specs.declared.answer.Refusal.{Refusal}
+use Rattle.sheet.specs.Answers.{issued_report}
 use Rattle.sheet.specs.Record.{record_count}
 use Rattle.sheet.proofs.Answered.{done-shaped}
 use Rattle.matrices.specs.Matrices.{text_size}
@@ -15,7 +19,7 @@ text_size-requires c = (done-shaped c.args.sheet.now c.args.summary c.requires).
 pub returns-then-text-text_size : goal.returns-then-text-text_size
 returns-then-text-text_size c =
     let whole = write_refused c.args.sheet.now c.args.text.now
-    (write_short c.args.sheet.now c.args.text.now c.args.summary c.requires (omega (arith, c.text_size.ensures, c.if-text-text_size.true))) in record { answer = whole.0; report = whole.1.0; written = whole.1.1 }
+    (write_short c.args.sheet.now c.args.text.now c.args.summary c.requires (omega (arith, c.text_size.ensures, c.if-text-text_size.true))) in record { answer = ap Err c.from.ensures ∙ whole.0; report = ap (λ (r : Refusal). issued_report (Err r)) c.from.ensures ∙ whole.1.0; written = whole.1.1 }
 
 pub load_rows-table-requires : goal.load_rows-table-requires
 load_rows-table-requires c = (done-shaped c.args.sheet.now c.args.summary c.requires, omega arith)

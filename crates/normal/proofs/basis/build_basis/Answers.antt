@@ -16,17 +16,17 @@ matrix f n a rows el e = rw e (padded_matrix (conjugates f n a) n (conjugates_ma
 
 pub invert-requires : goal.invert-requires
 invert-requires c =
-    (c.requires.1, matrix c.args.f c.args.n c.args.a c.conjugates_of-conjugates.result c.requires.2 c.conjugates_of-conjugates.ensures)
+    (c.requires.0, matrix c.args.f c.args.n c.args.a c.conjugates_of-conjugates.result c.requires.1 c.conjugates_of-conjugates.ensures)
 
 pub returns-in-Err : goal.returns-in-Err
 returns-in-Err c =
-    built_dependent c.args.f c.args.n c.args.a c.requires.2.is_degree c.requires.1 c.requires.2.below _ (rw c.conjugates_of-conjugates.ensures at c.in-Err.ensures) c.in-Err.dependency refl
+    built_dependent c.args.f c.args.n c.args.a c.requires.1.is_degree c.requires.0 c.requires.1.below _ (rw c.conjugates_of-conjugates.ensures at c.in-Err.ensures) c.in-Err.dependency refl
 
 pub table_of-table-requires : goal.table_of-table-requires
 table_of-table-requires c =
-    (c.requires.1, c.requires.2.is_degree, matrix c.args.f c.args.n c.args.a c.conjugates_of-conjugates.result c.requires.2 c.conjugates_of-conjugates.ensures)
+    (c.requires.0, c.requires.1.is_degree, matrix c.args.f c.args.n c.args.a c.conjugates_of-conjugates.result c.requires.1 c.conjugates_of-conjugates.ensures)
 
 pub returns : goal.returns
 returns c =
-    built_normal c.args.f c.args.n c.args.a c.requires.2.is_degree c.requires.1 c.requires.2.below _ (rw c.conjugates_of-conjugates.ensures at c.in-Ok.ensures) c.in-Ok.inverse refl
+    built_normal c.args.f c.args.n c.args.a c.requires.1.is_degree c.requires.0 c.requires.1.below _ (rw c.conjugates_of-conjugates.ensures at c.in-Ok.ensures) c.in-Ok.inverse refl
     c.conjugates_of-conjugates.result c.table_of-table.result c.conjugates_of-conjugates.ensures (rw c.conjugates_of-conjugates.ensures at c.table_of-table.ensures)

@@ -20,19 +20,16 @@ loop-i-init c =
     (filled_start (λ j. squared c.args.f c.args.n j c.args.a), squared_start c.args.f c.args.n c.args.a)
 
 pub square-y-requires : goal.square-y-requires
-square-y-requires c = (
-  c.requires.0,
-  record {
-    is_degree = c.requires.2.is_degree;
-    below = rw c.loop-i.invariant.1 (squared-lt c.args.f c.args.n c.requires.2.is_degree c.loop-i.i c.args.a c.requires.2.below);
-  },
-)
+square-y-requires c = record {
+  is_degree = c.requires.1.is_degree;
+  below = rw c.loop-i.invariant.1 (squared-lt c.args.f c.args.n c.requires.1.is_degree c.loop-i.i c.args.a c.requires.1.below);
+}
 
 pub loop-i-preserved : goal.loop-i-preserved
 loop-i-preserved c = (
-  filled_turn c.loop-i.rows c.loop-i.i c.loop-i.y (λ j. squared c.args.f c.args.n j c.args.a) (omega (arith, c.requires.1)) c.loop-i.invariant.1 c.loop-i.invariant.0,
-  squared_turn c.args.f c.args.n c.requires.2.is_degree c.loop-i.i c.args.a c.loop-i.y c.square-y.result c.loop-i.invariant.1 c.square-y.ensures,
+  filled_turn c.loop-i.rows c.loop-i.i c.loop-i.y (λ j. squared c.args.f c.args.n j c.args.a) (omega (arith, c.requires.0)) c.loop-i.invariant.1 c.loop-i.invariant.0,
+  squared_turn c.args.f c.args.n c.requires.1.is_degree c.loop-i.i c.args.a c.loop-i.y c.square-y.result c.loop-i.invariant.1 c.square-y.ensures,
 )
 
 pub returns : goal.returns
-returns c = done c.args.f c.args.n c.args.a c.loop-i.i c.loop-i.rows (omega arith) c.requires.1 c.loop-i.invariant.0
+returns c = done c.args.f c.args.n c.args.a c.loop-i.i c.loop-i.rows (omega arith) c.requires.0 c.loop-i.invariant.0

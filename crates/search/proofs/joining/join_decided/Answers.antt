@@ -6,13 +6,16 @@ use mir.Val.{Fits}
 use mir.Syntax.{w32}
 use Rattle.search.specs.Joining.{join_not_normal, join_normal}
 use Rattle.search.proofs.joining.join_decided.Goals as goal
+use Rattle.std.specs.Prelude.{Ok, Some, None}
 
-pub returns-in-NotNormal : goal.returns-in-NotNormal
-returns-in-NotNormal c =
-    join_not_normal c.args.f c.args.n c.args.held c.args.a c.args.decided c.requires c.in-NotNormal.is
+pub returns-in-None : goal.returns-in-None
+returns-in-None c =
+    let s = c.args.squares.now in
+    join_not_normal s.f s.n (Ok c.args.held) c.args.a c.args.decided c.requires c.in-None.is
 
-pub returns-in-Normal : goal.returns-in-Normal
-returns-in-Normal c =
-    let h : Fits w32 c.in-Normal.ones = search rules in
-    join_normal c.args.f c.args.n c.args.held c.args.a c.args.decided c.requires
-    c.in-Normal.ones c.in-Normal.is (omega (arith, h.fits)) c.join_leader.result c.join_leader.ensures
+pub returns-in-Some : goal.returns-in-Some
+returns-in-Some c =
+    let s = c.args.squares.now in
+    let h : Fits w32 c.in-Some.ones = search rules in
+    join_normal s.f s.n (Ok c.args.held) c.args.a c.args.decided c.requires
+    c.in-Some.ones c.in-Some.is (omega (arith, h.fits)) (Ok (Some c.join_leader.result)) c.join_leader.ensures

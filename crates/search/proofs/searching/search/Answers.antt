@@ -11,27 +11,28 @@ use Rattle.search.specs.Answers.{search_order, search_answer, search_report}
 use Rattle.search.specs.Joined.{nothing-joined}
 use Rattle.search.specs.Orders.{search-promised}
 use Rattle.search.proofs.Orders.{clear_range}
-use Rattle.search.specs.declared.answer.Search.TheVariants.{Refused}
 use Rattle.search.proofs.searching.search.Goals as goal
+use Rattle.std.proofs.Common.{rules, ◌≡◌}
+use Rattle.std.specs.Prelude.{Err}
 
 pub walk-requires : goal.walk-requires
 unfolding count_of
 walk-requires c = (
-  c.spread_table-spread.ensures,
   clear_range c.args.f c.degree_of.result c.args.first c.args.last c.degree_of.ensures
-      (judged_clear (first_of (search_order c.args.f c.args.first c.args.last)) c.search_verdict-verdict.ensures c.in-Done.is),
+      (judged_clear (first_of (search_order c.args.f c.args.first c.args.last)) c.search_verdict.ensures c.in_ok-search_verdict.was),
   omega arith,
 )
 
-pub returns-in-Refused : goal.returns-in-Refused
+pub returns-in_err-search_verdict : goal.returns-in_err-search_verdict
 unfolding search_answer search_report
-returns-in-Refused c =
+returns-in_err-search_verdict c =
+    let e : c.from_residual.result ≡ Err c.in_err-search_verdict.field-0.0 = search rules in
     let whole = search-promised (first_of (search_order c.args.f c.args.first c.args.last)) _
-    (judged_refused (λ (r : Refusal). Refused r.number) _ _ c.search_verdict-verdict.ensures c.in-Refused.is) in record { answer = whole.0; report = whole.1 }
+    (e ∙ judged_refused Err _ _ c.search_verdict.ensures c.in_err-search_verdict.was) in record { answer = whole.0; report = whole.1 }
 
-pub returns-in-Done : goal.returns-in-Done
+pub returns : goal.returns
 unfolding search_answer search_report
-returns-in-Done c =
+returns c =
     let whole = search-promised (first_of (search_order c.args.f c.args.first c.args.last)) _
     (c.walk.ensures ∙ nothing-joined _ ∙ ap (λ (n : ℕ). ranged c.args.f n c.args.first c.args.last) c.degree_of.ensures
-    ∙ judged_done (λ (r : Refusal). Refused r.number) _ _ c.search_verdict-verdict.ensures c.in-Done.is) in record { answer = whole.0; report = whole.1 }
+    ∙ judged_done Err _ _ c.search_verdict.ensures c.in_ok-search_verdict.was) in record { answer = whole.0; report = whole.1 }

@@ -4,20 +4,12 @@ use mathlib.Core.Path.{sym, ◌∙◌}
 use Rattle.search.specs.Begun.{trace-leader_with, trace-leader_without}
 use Rattle.search.proofs.walking.is_trace_leader.Goals as goal
 
-pub has_trace-requires : goal.has_trace-requires
-has_trace-requires c = (c.requires.0.of_modulus, c.requires.1)
+pub returns-then-has_trace : goal.returns-then-has_trace
+returns-then-has_trace c =
+    let s = c.args.m.now.squares.now in
+    c.is_leader.ensures ∙ trace-leader_with s.f s.n c.args.a (sym c.has_trace.ensures ∙ c.if-has_trace.true)
 
-pub returns-then-not-has_trace : goal.returns-then-not-has_trace
-returns-then-not-has_trace c =
-    let m = c.args.m in
-    trace-leader_without m.f m.n c.args.a (sym c.has_trace.ensures ∙ c.if-not-has_trace.true)
-
-pub is_leader-requires : goal.is_leader-requires
-is_leader-requires c =
-    (c.requires.0.held, record { of_field = c.requires.0.of_modulus.of_field; below = c.requires.1 })
-
-pub returns : goal.returns
-returns c =
-    let m = c.args.m in
-    c.is_leader.ensures
-    ∙ trace-leader_with m.f m.n c.args.a (sym c.has_trace.ensures ∙ c.if-not-has_trace.false)
+pub returns-else-has_trace : goal.returns-else-has_trace
+returns-else-has_trace c =
+    let s = c.args.m.now.squares.now in
+    c.if-has_trace.false ∙ trace-leader_without s.f s.n c.args.a (sym c.has_trace.ensures ∙ c.if-has_trace.false)

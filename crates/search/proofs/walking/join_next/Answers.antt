@@ -2,17 +2,15 @@
 -- Assumes nothing.
 use native.Mathlib.Omega.{arith}
 use lib.Pow.{pow_mono}
+use Rattle.elements.specs.Held.{of_field}
 use Rattle.search.proofs.walking.join_next.Goals as goal
-
-pub decide-decided-requires : goal.decide-decided-requires
-decide-decided-requires c = (c.requires.0, c.requires.1)
 
 pub join_decided-requires : goal.join_decided-requires
 join_decided-requires c =
-    let of_field = c.requires.0.reference.of_field in
+    let s = of_field c.args.tables.now.reference in
     record {
-      of_element = record { of_field = of_field; below = c.requires.1 };
-      leads = c.requires.2;
+      of_element = record { of_field = s; below = c.requires.element };
+      leads = c.requires.leads;
       decides = rw c.bound_of.ensures at c.decide-decided.ensures;
-      counts = omega (arith, c.requires.1, c.requires.3, pow_mono of_field.most);
+      counts = omega (arith, c.requires.element, c.requires.counts, pow_mono s.most);
     }

@@ -1,58 +1,65 @@
--- `search::walking::walk` meets its contract: nothing is there, or the first normal leader is the reference for it and the rest of the range.
+-- `search::walking::walk` meets its contract: up to the first normal leader nothing is added, and on from it the walk joins.
 -- Assumes nothing.
+use mathlib.Core.Path.{◌≡◌, refl, ap, ◌∙◌}
+use Prim.Native.Nat.{◌+◌}
 use native.Mathlib.Omega.{arith}
-use borrow.Author.Rules.{rules}
-use Rattle.elements.specs.Traces.{ModulusOf}
+use Rattle.elements.specs.declared.squares.Squares.{Squares}
+use Rattle.elements.specs.declared.modulus.Modulus.{Modulus}
+use Rattle.elements.specs.Held.{f_of, n_of}
 use Rattle.search.specs.Search.{normal_leader}
 use Rattle.search.specs.Walks.{leader_is_normal}
+use Rattle.search.specs.Begun.{PartOf, FirstFrom}
 use Rattle.search.proofs.Begun.{begun_nothing, begun_found}
-use Rattle.search.proofs.walking.walk.Goals.{After-trace_mask-mask}
+use Rattle.search.proofs.walking.walk.Goals.{After-new-m, After-new-tables}
 use Rattle.search.proofs.walking.walk.Goals as goal
+use Rattle.std.specs.Prelude.{Ok}
 
-pub square_sums-squares-requires : goal.square_sums-squares-requires
-square_sums-squares-requires c = (c.requires.0, c.requires.1.of_field)
+-- the squares are those of f
+m_f : (t : After-new-m) → t.new-m.result.squares.now.f ≡ t.args.f
+m_f t = ap (λ (s : Squares). s.f) t.new-m.ensures ∙ t.new-squares.ensures.0
 
-pub trace_mask-mask-requires : goal.trace_mask-mask-requires
-trace_mask-mask-requires c = (c.square_sums-squares.ensures, c.requires.1.of_field)
+m_n : (t : After-new-m) → t.new-m.result.squares.now.n ≡ t.args.n
+m_n t = ap (λ (s : Squares). s.n) t.new-m.ensures ∙ t.new-squares.ensures.1
 
--- f, its degree and its mask
-modulus : (c : After-trace_mask-mask) → ModulusOf (record { f = c.args.f; n = c.args.n; mask = c.trace_mask-mask.result })
-modulus c = record { of_field = c.requires.1.of_field; of_mask = c.trace_mask-mask.ensures }
+pub first_normal-requires : goal.first_normal-requires
+first_normal-requires c =
+    let part : PartOf c.args.n c.args.first c.args.last = record { within = omega (arith, c.requires.0.ordered); elements = c.requires.0.elements } in
+    (rw (m_n (goal.at.first_normal-requires c).After-new-m) part)
 
-pub first_normal-b-requires : goal.first_normal-b-requires
-first_normal-b-requires c = (
-  c.requires.0,
-  record { of_modulus = modulus (goal.at.first_normal-b-requires c).After-trace_mask-mask; held = c.square_sums-squares.ensures },
-  record { within = omega (arith, c.requires.1.ordered); elements = c.requires.1.elements },
-)
+pub new-reference-requires : goal.new-reference-requires
+new-reference-requires c =
+    let s = c.new-m.result.squares.now in
+    let first = c.in-Some.ensures in (
+      rw (m_n (goal.at.new-reference-requires c).After-new-m) (omega (arith, first.0, c.requires.0.elements)),
+      leader_is_normal s.f s.n c.in-Some.b (first.1.passes first.0),
+    )
 
-pub returns-then-last-b : goal.returns-then-last-b
-returns-then-last-b c =
-    begun_nothing c.args.f c.args.n c.args.first c.args.last c.first_normal-b.result (normal_leader c.args.f c.args.n) c.first_normal-b.ensures c.args.held c.if-last-b.true
+-- and so are the tables
+tables_f : (t : After-new-tables) (m : After-new-m) → t.new-m.result ≡ m.new-m.result → f_of t.new-tables.result.reference ≡ m.args.f
+tables_f t m e = ap (λ (m : Modulus). m.squares.now.f) (t.new-tables.ensures ∙ t.new-reference.ensures ∙ e) ∙ m_f m
 
-pub reference_sums-requires : goal.reference_sums-requires
-reference_sums-requires c = (
-  c.requires.0,
-  record { of_field = c.requires.1.of_field; below = omega (arith, c.if-last-b.false, c.requires.1.elements) },
-  leader_is_normal c.args.f c.args.n c.first_normal-b.result (c.first_normal-b.ensures.passes c.if-last-b.false),
-  search rules,
-)
-
-pub upper_sums-uppers-requires : goal.upper_sums-uppers-requires
-upper_sums-uppers-requires c = c.reference_sums.ensures
+tables_n : (t : After-new-tables) (m : After-new-m) → t.new-m.result ≡ m.new-m.result → n_of t.new-tables.result.reference ≡ m.args.n
+tables_n t m e = ap (λ (m : Modulus). m.squares.now.n) (t.new-tables.ensures ∙ t.new-reference.ensures ∙ e) ∙ m_n m
 
 pub walk_on-requires : goal.walk_on-requires
-walk_on-requires c = (
-  record {
-    of_squares = record { of_modulus = modulus (goal.at.walk_on-requires c).After-trace_mask-mask; held = c.square_sums-squares.ensures };
-    reference = c.reference_sums.ensures;
-    of_uppers = c.upper_sums-uppers.ensures;
-  },
-  record { within = c.first_normal-b.ensures.upto; elements = c.requires.1.elements },
-  omega (arith, c.requires.2, c.first_normal-b.ensures.since),
-)
+walk_on-requires c =
+    let first = c.in-Some.ensures in
+    let part : PartOf c.args.n c.in-Some.b c.args.last = record { within = first.1.upto; elements = c.requires.0.elements } in
+    let place = goal.at.walk_on-requires c in
+    (rw (tables_n place.After-new-tables place.After-new-m refl) part, omega (arith, c.requires.1, first.1.since))
 
-pub returns : goal.returns
-returns c =
-    begun_found c.args.f c.args.n c.args.first c.args.last c.first_normal-b.result (normal_leader c.args.f c.args.n) c.first_normal-b.ensures c.args.held
-    c.walk_on.result c.walk_on.ensures
+pub returns-in-None : goal.returns-in-None
+returns-in-None c =
+    let m = (goal.at.returns-in-None c).After-new-m in
+    let begun : FirstFrom c.args.f c.args.n (normal_leader c.args.f c.args.n) c.args.first c.args.last (c.args.last + 1) = rw (m_f m, m_n m) at c.in-None.ensures in
+    begun_nothing c.args.f c.args.n c.args.first c.args.last (c.args.last + 1) (normal_leader c.args.f c.args.n) begun (Ok c.args.held) (omega arith)
+
+pub returns-in-Some : goal.returns-in-Some
+returns-in-Some c =
+    let f = c.args.f in
+    let n = c.args.n in
+    let place = goal.at.returns-in-Some c in
+    let m = place.After-new-m in
+    let begun : FirstFrom f n (normal_leader f n) c.args.first c.args.last c.in-Some.b = rw (m_f m, m_n m) at c.in-Some.ensures.1 in
+    begun_found f n c.args.first c.args.last c.in-Some.b (normal_leader f n) begun (Ok c.args.held) (Ok c.walk_on.result)
+    (rw (tables_f place.After-new-tables m refl, tables_n place.After-new-tables m refl) at c.walk_on.ensures)

@@ -1,67 +1,73 @@
 -- `search::walking::walk_on` meets its contract: the goals that the check leaves. Its loop is told in `Invariants.antt`. Assumes nothing.
-use Prim.Native.Nat.{◌+◌, ◌^◌, ◌<◌}
+use mathlib.Core.Path.{◌≡◌, sym, ap, ◌∙◌}
+use mathlib.Core.Bool.{false}
+use Prim.Native.Nat.{ℕ, ◌+◌, ◌^◌, ◌<◌}
 use native.Mathlib.Omega.{arith}
-use lib.Pow.{pow_mono}
-use Rattle.search.specs.Search.{leader}
-use Rattle.search.specs.Begun.{next-done}
-use Rattle.search.proofs.Begun.{next_skip, next_start, next_turn, next-count}
-use Rattle.search.proofs.walking.walk_on.Goals.{In-loop-y}
+use Rattle.elements.specs.Fields.{FieldOf}
+use Rattle.elements.specs.Held.{f_of, n_of, of_field}
+use Rattle.search.specs.Search.{Search, joined, candidate_of}
+use Rattle.search.specs.Joined.{joined-nothing}
+use Rattle.search.specs.Walks.{candidate_none}
+use Rattle.search.specs.Begun.{trace_leader, next-done, trace-leader-leads, not_trace-leader}
+use Rattle.search.specs.declared.answer.Best.{Best}
+use Rattle.refusals.specs.declared.answer.Refusal.{Refusal}
+use Rattle.search.proofs.Begun.{next_start, next_turn, next-count}
+use Rattle.search.proofs.walking.walk_on.Goals.{then-is_trace_leader, else-is_trace_leader}
 use Rattle.search.proofs.walking.walk_on.Goals as goal
-
-pub next_leader-y-requires : goal.next_leader-y-requires
-next_leader-y-requires c = (c.requires.0.of_squares, c.requires.1)
+use Rattle.std.specs.Prelude.{Result, Option}
+use Rattle.std.specs.Prelude.{Ok}
 
 pub loop-y-init : goal.loop-y-init
 loop-y-init c =
-    let f = c.args.m.f in
-    let n = c.args.m.n in
-    let next = c.args.next in
-    let to = c.next_leader-y.ensures in (
-      to.since,
-      to.upto,
-      to.passes,
-      omega (arith, c.requires.2, to.since),
-      next_skip f n next c.args.last next c.next_leader-y.result (omega arith) (leader f n) to c.args.held c.args.held
-          (next_start f n next c.args.held),
-    )
+    let r = c.args.tables.now.reference in
+    (c.requires.0.within, c.requires.1, next_start (f_of r) (n_of r) c.args.next (Ok c.args.held))
 
--- y is an element
-element : (i : In-loop-y) → i.loop-y.y < 2 ^ i.args.m.n
-element i = omega (arith, i.requires.1.elements, i.loop-y-test.true)
+pub join_next-found-requires : goal.join_next-found-requires
+join_next-found-requires c =
+    let r = c.args.tables.now.reference in
+    record {
+      element = omega (arith, c.requires.0.elements, c.loop-y-test.true);
+      leads = trace-leader-leads (f_of r) (n_of r) c.loop-y.y (sym c.is_trace_leader.ensures ∙ c.if-is_trace_leader.true);
+      counts = c.loop-y.invariant.1;
+    }
 
-pub join_next-more-requires : goal.join_next-more-requires
-join_next-more-requires c =
-    (c.requires.0, element (goal.at.join_next-more-requires c).In-loop-y, c.loop-y.invariant.2 (omega (arith, c.loop-y-test.true)), c.loop-y.invariant.3)
-
-pub overflow_add-y : goal.overflow_add-y
-overflow_add-y c =
-    omega (arith, element (goal.at.overflow_add-y c).In-loop-y, pow_mono c.requires.0.reference.of_field.most)
-
-pub next_leader-y-requires-in-loop-y : goal.next_leader-y-requires-in-loop-y
-next_leader-y-requires-in-loop-y c =
-    (c.requires.0.of_squares, record { within = omega (arith, c.loop-y-test.true); elements = c.requires.1.elements })
-
-pub loop-y-smaller : goal.loop-y-smaller
-loop-y-smaller c = omega (arith, c.next_leader-y-in-loop-y.ensures.since, c.loop-y-test.true)
+-- an element that is no leader of trace 1 adds nothing
+skipped : (f n y : ℕ) → FieldOf f n → y < 2 ^ n → trace_leader f n y ≡ false → (x z : Search) → z ≡ x → z ≡ joined x (candidate_of f n y)
+skipped f n y s below e x z ez =
+    ez ∙ sym (ap (joined x) (candidate_none f n y (not_trace-leader f n y s below e)) ∙ joined-nothing x)
 
 pub loop-y-preserved : goal.loop-y-preserved
 loop-y-preserved c =
-    let f = c.args.m.f in
-    let n = c.args.m.n in
-    let next = c.args.next in
-    let y = c.loop-y.y in
-    let held = c.args.held in
-    let found = c.join_next-more.result in
-    let to = c.next_leader-y-in-loop-y.ensures in (
-      omega (arith, c.loop-y.invariant.0, to.since),
-      to.upto,
-      to.passes,
-      omega (arith, to.since, next-count f n next y c.loop-y.invariant.0 held c.loop-y.found found c.join_next-more.ensures c.loop-y.invariant.3),
-      next_skip f n next c.args.last (y + 1) c.next_leader-y-in-loop-y.result (omega (arith, c.loop-y.invariant.0)) (leader f n) to held found
-          (next_turn f n next y c.loop-y.invariant.0 held c.loop-y.found found c.join_next-more.ensures c.loop-y.invariant.4),
+    let r = c.args.tables.now.reference in
+    let l = c.loop-y in
+    let found = Ok c.if-is_trace_leader.found in
+    let below : l.y < 2 ^ n_of r = omega (arith, c.requires.0.elements, c.loop-y-test.true) in
+    let more : found ≡ joined (Ok l.found) (candidate_of (f_of r) (n_of r) l.y) =
+    elim c.if-is_trace_leader.branch [
+      | then-is_trace_leader w ↦ ap Ok w.found-is ∙ w.join_next-found.ensures
+      | else-is_trace_leader w ↦ skipped (f_of r) (n_of r) l.y (of_field r) below (sym c.is_trace_leader.ensures ∙ w.if-is_trace_leader.false) (Ok l.found) found (ap Ok w.found-is)
+    ] in (
+      omega (arith, c.loop-y-test.true),
+      next-count (f_of r) (n_of r) c.args.next l.y l.auto.y (Ok c.args.held) (Ok l.found) found more l.invariant.1,
+      next_turn (f_of r) (n_of r) c.args.next l.y l.auto.y (Ok c.args.held) (Ok l.found) found more l.invariant.2,
     )
 
 pub returns : goal.returns
 returns c =
-    next-done c.args.m.f c.args.m.n c.args.next c.args.last c.loop-y.y c.args.held c.loop-y.found c.loop-y.invariant.1 c.loop-y-test.false
-    c.loop-y.invariant.4
+    let r = c.args.tables.now.reference in
+    let l = c.loop-y in
+    next-done (f_of r) (n_of r) c.args.next c.args.last l.y (Ok c.args.held) (Ok l.found) l.invariant.0 c.loop-y-test.false l.invariant.2
+
+pub returns-after-is_trace_leader : goal.returns-after-is_trace_leader
+returns-after-is_trace_leader c =
+    let r = c.args.tables.now.reference in
+    let l = c.loop-y in
+    let found = Ok c.if-is_trace_leader.found in
+    let below : l.y < 2 ^ n_of r = omega (arith, c.requires.0.elements, c.loop-y-test.true) in
+    let more : found ≡ joined (Ok l.found) (candidate_of (f_of r) (n_of r) l.y) =
+    elim c.if-is_trace_leader.branch [
+      | then-is_trace_leader w ↦ ap Ok w.found-is ∙ w.join_next-found.ensures
+      | else-is_trace_leader w ↦ skipped (f_of r) (n_of r) l.y (of_field r) below (sym c.is_trace_leader.ensures ∙ w.if-is_trace_leader.false) (Ok l.found) found (ap Ok w.found-is)
+    ] in
+    next-done (f_of r) (n_of r) c.args.next c.args.last (l.y + 1) (Ok c.args.held) found (omega (arith, c.loop-y-test.true)) (omega arith)
+    (next_turn (f_of r) (n_of r) c.args.next l.y l.auto.y (Ok c.args.held) (Ok l.found) found more l.invariant.2)

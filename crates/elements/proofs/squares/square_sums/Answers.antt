@@ -1,8 +1,0 @@
--- `elements::squares::square_sums` meets its contract: the tables are those of the rows.
--- Assumes nothing.
-use Rattle.std.proofs.Common.{ap, ◌∙◌}
-use Rattle.rows.specs.ByteSums.{bytes, byte_sums}
-use Rattle.elements.proofs.squares.square_sums.Goals as goal
-
-pub returns : goal.returns
-returns c = c.byte_sums.ensures ∙ ap (byte_sums bytes) c.square_rows.ensures
