@@ -7,11 +7,11 @@ use Rattle.sheet.specs.Orders.{shape_order, rebuild_order, read_order, Shaped}
 use Rattle.sheet.specs.Answers.{summary_in, read_answer}
 use Rattle.sheet.proofs.Clear.{clear-shaped}
 use Rattle.sheet.specs.declared.answer.Summary.{Summary}
-use Rattle.sheet.specs.declared.answer.Issued.TheVariants as issued
 use Rattle.sheet.specs.Answered.{done-clear}
+use Rattle.std.specs.Prelude.{Ok}
 
 -- a sheet that reading accepts has a good shape
-pub done-shaped : (sheet : List ℕ) (s : Summary) → read_answer sheet ≡ issued.Done s → Shaped sheet
+pub done-shaped : (sheet : List ℕ) (s : Summary) → read_answer sheet ≡ Ok s → Shaped sheet
 unfolding read_answer
 done-shaped sheet s e =
     clear-shaped sheet (parts-clear (shape_order sheet) (rebuild_order sheet) (done-clear (first_of (read_order sheet)) (summary_in sheet) s e)).0

@@ -7,11 +7,12 @@ use Rattle.gf2.specs.Limit.{limit}
 use Rattle.gf2.specs.Numbers.{order}
 use Rattle.refusals.specs.Verdicts.{Rule, clear, first_of}
 use Rattle.refusals.specs.Answers.{checked_of}
-use Rattle.refusals.specs.declared.answer.Checked.{Checked}
 use Rattle.refusals.specs.Orders.{first-clear, first-none, first_passes, part-clear}
 use Rattle.sheet.specs.Record.{record_count}
 use Rattle.sheet.specs.Orders.{bad_length, misplaced, oversized, record_rules, shape_order, length_rule, Shaped}
 use Rattle.sheet.specs.Shape.{good_length, length_many, shape-long}
+use Rattle.refusals.specs.declared.fault.Fault.TheVariants as faults
+use Rattle.refusals.specs.Answers.{Checked}
 
 -- ---- what a clear shape says
 
@@ -19,8 +20,8 @@ records_clear : (sheet : List ℕ) (k i : ℕ) → first_of (record_rules sheet 
 unfolding record_rules
 records_clear sheet zero i e j h = absurd (omega arith)
 records_clear sheet (suc k) i e j h =
-    let a = first-clear (record { number = 8; place = i; applies = misplaced sheet i }) _ e in
-    let b = first-clear (record { number = 9; place = i; applies = oversized sheet i }) (record_rules sheet (i + 1) k) a.1 in
+    let a = first-clear (record { fault = faults.Misplaced; place = i; applies = misplaced sheet i }) _ e in
+    let b = first-clear (record { fault = faults.Oversized; place = i; applies = oversized sheet i }) (record_rules sheet (i + 1) k) a.1 in
     ⊎_elim
     (λ (u : j < 1). let z : i + j ≡ i = omega arith in rw z (a.0, b.0))
     (λ (u : 1 ≤ j).
@@ -49,8 +50,8 @@ records_passed sheet (suc k) i h =
     let here = rw add-zero at (h 0 (omega arith)) in
     let rest : first_of (record_rules sheet (i + 1) k) ≡ clear =
     records_passed sheet k (i + 1) (λ j l. let z : i + 1 + j ≡ i + (j + 1) = omega arith in rw z (h (j + 1) (omega arith))) in
-    first_passes (record { number = 8; place = i; applies = misplaced sheet i }) _ here.0
-    ∙ first_passes (record { number = 9; place = i; applies = oversized sheet i }) _ here.1 ∙ rest
+    first_passes (record { fault = faults.Misplaced; place = i; applies = misplaced sheet i }) _ here.0
+    ∙ first_passes (record { fault = faults.Oversized; place = i; applies = oversized sheet i }) _ here.1 ∙ rest
 
 pub shaped-clear : (sheet : List ℕ) → Shaped sheet → first_of (shape_order sheet) ≡ clear
 shaped-clear sheet z =

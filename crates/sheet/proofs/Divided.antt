@@ -8,7 +8,6 @@ use Rattle.gf2.specs.Poly.{Degree}
 use Rattle.refusals.specs.Answers.{refusal_at, answer_of, value_of}
 use Rattle.refusals.specs.Orders.{part-refused, part-clear, parts-clear}
 use Rattle.refusals.specs.Verdicts.{Rule, Verdict, clear, refuse, first_of}
-use Rattle.refusals.specs.declared.answer.Value.TheVariants as value
 use Rattle.field.specs.Checked.{accepted-irreducible}
 use Rattle.field.specs.Field.{squared, pow_mod, Irreducible}
 use Rattle.field.specs.Refusals.{element_order}
@@ -31,6 +30,9 @@ use Rattle.sheet.specs.Sheets.{SheetOf}
 use Rattle.sheet.specs.Through.{value-small, values-small}
 use Rattle.sheet.proofs.Through.{values-clear, element_of}
 use Rattle.sheet.specs.Divided.{inverse_steps}
+use Rattle.std.specs.Prelude.{Ok, Err}
+use Rattle.refusals.specs.declared.fault.Fault.TheVariants as faults
+use Rattle.refusals.specs.declared.fault.Fault.{Fault}
 
 -- ---- any sheet: 7, 8, 9 and 4 come first
 
@@ -38,18 +40,18 @@ module _ (sheet : List ℕ) (b v : ℕ) where
   abbrev both : List Rule
   both = value_order sheet (b ∷ v ∷ [])
 
-  pub quotient_earlier : (k p : ℕ) → first_of (value_order sheet (b ∷ v ∷ [])) ≡ refuse k p → quotient_answer sheet b v ≡ value.Refused (refusal_at k p)
+  pub quotient_earlier : (k : Fault) (p : ℕ) → first_of (value_order sheet (b ∷ v ∷ [])) ≡ refuse k p → quotient_answer sheet b v ≡ Err (refusal_at k p)
   unfolding quotient_answer answer_of
   quotient_earlier k p e = ap (λ (w : Verdict). value_of w (quotient_through sheet b v)) (part-refused both (zero_rule v ∷ []) k p e)
 
   module _ (c : first_of (value_order sheet (b ∷ v ∷ [])) ≡ clear) where
     -- "divisor .. zero"
-    pub quotient_by_zero : v ≡ 0 → quotient_answer sheet b v ≡ value.Refused (refusal_at 13 0)
+    pub quotient_by_zero : v ≡ 0 → quotient_answer sheet b v ≡ Err (refusal_at faults.ZeroDivisor 0)
     unfolding quotient_answer answer_of
     quotient_by_zero e = ap (λ (w : Verdict). value_of w (quotient_through sheet b v)) (part-clear both (zero_rule v ∷ []) c ∙ zero-applies v e)
 
     -- "On other well-shaped sheets the same steps give the answer."
-    pub quotient_steps : 0 < v → quotient_answer sheet b v ≡ value.Done (quotient_through sheet b v)
+    pub quotient_steps : 0 < v → quotient_answer sheet b v ≡ Ok (quotient_through sheet b v)
     unfolding quotient_answer answer_of
     quotient_steps p = ap (λ (w : Verdict). value_of w (quotient_through sheet b v)) (part-clear both (zero_rule v ∷ []) c ∙ zero-passes v (λ e. omega arith))
 
@@ -60,7 +62,7 @@ module _ (sheet : List ℕ) (b v : ℕ) where
         value_passes sheet (parts-clear (shape_order sheet) (element_order (record_count sheet) (b ∷ v ∷ [])) c).0 (v ∷ []) (value-small (record_count sheet) v j.2)
 
     -- "a quotient is the dividend times the inverse": the product of the two is done, and is the quotient
-    pub quotient-through : times_answer sheet b (inverse_through sheet v) ≡ value.Done (quotient_through sheet b v)
+    pub quotient-through : times_answer sheet b (inverse_through sheet v) ≡ Ok (quotient_through sheet b v)
     unfolding times_answer through_table inverse_through quotient_through quotient_of answer_of
     quotient-through =
         let j = values_judged sheet b v c in
@@ -101,10 +103,10 @@ module _ (f n a : ℕ) (sheet : List ℕ) (s : SheetOf f n a sheet) where
 
   -- ---- the calls
 
-  pub inverse_answered : (v : ℕ) → 0 < v → v < 2 ^ n → inverse_answer sheet v ≡ value.Done (inverse_through sheet v)
+  pub inverse_answered : (v : ℕ) → 0 < v → v < 2 ^ n → inverse_answer sheet v ≡ Ok (inverse_through sheet v)
   inverse_answered v p h = inverse_steps sheet v (values-clear f n a sheet s (v ∷ []) (value-small n v h)) p
 
-  pub quotient_answered : (b v : ℕ) → b < 2 ^ n → 0 < v → v < 2 ^ n → quotient_answer sheet b v ≡ value.Done (quotient_through sheet b v)
+  pub quotient_answered : (b v : ℕ) → b < 2 ^ n → 0 < v → v < 2 ^ n → quotient_answer sheet b v ≡ Ok (quotient_through sheet b v)
   quotient_answered b v hb p h = quotient_steps sheet b v (values-clear f n a sheet s (b ∷ v ∷ []) (values-small n b v hb h)) p
 
   -- ---- what powers and inverses stand for

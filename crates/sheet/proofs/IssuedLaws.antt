@@ -15,8 +15,6 @@ use Rattle.std.proofs.Math.Seq.{take-append_seam}
 use Rattle.gf2.specs.Poly.{degree}
 use Rattle.refusals.specs.Answers.{answer_of, left, value_of, checked_of}
 use Rattle.refusals.specs.Verdicts.{Verdict, clear, refuse, first_of}
-use Rattle.refusals.specs.declared.answer.Checked.TheVariants as checked
-use Rattle.refusals.specs.declared.answer.Value.TheVariants as value
 use Rattle.sheet.specs.Record.{record_size, record_count, conjugate_in, polynomial_in, sheet_bytes}
 use Rattle.sheet.specs.Orders.{build_order, read_order, list_limit, Small}
 use Rattle.sheet.specs.Answers.{issued_of, summary_of, summary_in, build_answer, at_front, built_buffer, read_answer, to_polynomial, polynomial_answer, to_normal, normal_answer, through_table, times_answer, polynomial_list_answer, polynomial_list, normal_list_answer, normal_list}
@@ -28,9 +26,10 @@ use Rattle.sheet.specs.Sheets.{Based, SheetOf}
 use Rattle.sheet.specs.Through.{value-small, values-small}
 use Rattle.sheet.proofs.Through.{values-clear, list-clear, coordinates-clear}
 use Rattle.sheet.specs.declared.answer.Summary.{Summary}
-use Rattle.sheet.specs.declared.answer.Issued.TheVariants as issued
+use Rattle.std.specs.Prelude.{Ok}
+use Rattle.refusals.specs.Answers.{passed}
 
-done_is : (v : Verdict) (s t : Summary) → issued_of v s ≡ issued.Done t → s ≡ t
+done_is : (v : Verdict) (s t : Summary) → issued_of v s ≡ Ok t → s ≡ t
 unfolding answer_of
 done_is clear s t e = cc
 done_is (refuse k p) s t e = let z : ◌≡◌ {A = ℕ} 0 1 = cc in absurd (omega arith)
@@ -38,11 +37,11 @@ done_is (refuse k p) s t e = let z : ◌≡◌ {A = ℕ} 0 1 = cc in absurd (ome
 -- ---- build
 
 module _ (f a : ℕ) where
-  pub build_answered : (room : ℕ) → Based f (degree f) a → record_size * degree f ≤ room → build_answer f a room ≡ issued.Done (summary_of f (degree f) a)
+  pub build_answered : (room : ℕ) → Based f (degree f) a → record_size * degree f ≤ room → build_answer f a room ≡ Ok (summary_of f (degree f) a)
   unfolding build_answer answer_of
   build_answered room b fits = ap (λ (v : Verdict). issued_of v (summary_of f (degree f) a)) (build_issues f a room b fits)
 
-  pub answered_based : (room : ℕ) (t : Summary) → build_answer f a room ≡ issued.Done t
+  pub answered_based : (room : ℕ) (t : Summary) → build_answer f a room ≡ Ok t
       → Based f (degree f) a × (record_size * degree f ≤ room) × (summary_of f (degree f) a ≡ t)
   unfolding build_answer
   answered_based room t e =
@@ -71,7 +70,7 @@ module _ (f a : ℕ) where
 
 -- ---- reading
 
-pub answered_sheet : (sheet : List ℕ) (t : Summary) → read_answer sheet ≡ issued.Done t
+pub answered_sheet : (sheet : List ℕ) (t : Summary) → read_answer sheet ≡ Ok t
     → SheetOf (polynomial_in sheet) (record_count sheet) (conjugate_in sheet 0) sheet × (summary_in sheet ≡ t)
 unfolding read_answer
 answered_sheet sheet t e =
@@ -80,24 +79,24 @@ answered_sheet sheet t e =
     (read-sheet sheet (done-clear v s t e), done_is v s t e)
 
 module _ (f n a : ℕ) (sheet : List ℕ) (s : SheetOf f n a sheet) where
-  pub read_answered : read_answer sheet ≡ issued.Done (summary_of f n a)
+  pub read_answered : read_answer sheet ≡ Ok (summary_of f n a)
   unfolding read_answer answer_of
   read_answered =
       ap (λ (v : Verdict). issued_of v (summary_in sheet)) (sheet-reads f n a sheet s)
-      ∙ ap issued.Done (held_summary f n a sheet s)
+      ∙ ap Ok (held_summary f n a sheet s)
 
   -- ---- converting and multiplying
 
-  pub polynomial_answered : (v : ℕ) → v < 2 ^ n → polynomial_answer sheet v ≡ value.Done (to_polynomial sheet v)
+  pub polynomial_answered : (v : ℕ) → v < 2 ^ n → polynomial_answer sheet v ≡ Ok (to_polynomial sheet v)
   unfolding polynomial_answer answer_of
   polynomial_answered v h =
       ap (λ (w : Verdict). value_of w (to_polynomial sheet v)) (values-clear f n a sheet s (v ∷ []) (value-small n v h))
 
-  pub normal_answered : (word : ℕ) → normal_answer sheet word ≡ value.Done (to_normal sheet word)
+  pub normal_answered : (word : ℕ) → normal_answer sheet word ≡ Ok (to_normal sheet word)
   unfolding normal_answer answer_of
   normal_answered word = ap (λ (w : Verdict). value_of w (to_normal sheet word)) (held-shape f n a sheet s)
 
-  pub times_answered : (u v : ℕ) → u < 2 ^ n → v < 2 ^ n → times_answer sheet u v ≡ value.Done (through_table sheet u v)
+  pub times_answered : (u v : ℕ) → u < 2 ^ n → v < 2 ^ n → times_answer sheet u v ≡ Ok (through_table sheet u v)
   unfolding times_answer answer_of
   times_answered u v hu hv =
       ap (λ (w : Verdict). value_of w (through_table sheet u v)) (values-clear f n a sheet s (u ∷ v ∷ []) (values-small n u v hu hv))
@@ -105,7 +104,7 @@ module _ (f n a : ℕ) (sheet : List ℕ) (s : SheetOf f n a sheet) where
   -- ---- lists
 
   module _ (from : List ℕ) (short : length from ≤ list_limit) where
-    pub list-normal_answered : normal_list_answer sheet from (length from) ≡ checked.Done
+    pub list-normal_answered : normal_list_answer sheet from (length from) ≡ passed
     unfolding normal_list_answer answer_of
     list-normal_answered = ap checked_of (list-clear f n a sheet s from short)
 
@@ -114,7 +113,7 @@ module _ (f n a : ℕ) (sheet : List ℕ) (s : SheetOf f n a sheet) where
     list-normal into e = rw (e, list-clear f n a sheet s from short) refl
 
     module _ (all : Small n from) where
-      pub list-polynomial_answered : polynomial_list_answer sheet from (length from) ≡ checked.Done
+      pub list-polynomial_answered : polynomial_list_answer sheet from (length from) ≡ passed
       unfolding polynomial_list_answer answer_of
       list-polynomial_answered = ap checked_of (coordinates-clear f n a sheet s from short all)
 

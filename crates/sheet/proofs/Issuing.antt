@@ -31,6 +31,7 @@ use Rattle.sheet.proofs.Clear.{clear-shaped}
 use Rattle.sheet.specs.Rebuilding.{sheet_bytes-length}
 use Rattle.sheet.specs.Sheets.{Based, SheetOf}
 use Rattle.sheet.proofs.Written.{written_count, written_shape, written_polynomial, written_element, written_rebuilt, itself_clear, same_sheets}
+use Rattle.refusals.specs.declared.fault.Fault.TheVariants as faults
 
 -- ---- what is based
 
@@ -85,7 +86,7 @@ module _ (f a room : ℕ) where
         ∙ first_passes (element_rule (degree f) (a ∷ [])) _ (rw (small-enough (degree f) a below))
         ∙ first_passes (room_rule (degree f) room) _ (le-ltb room (record_size * degree f) fits)
 
-    pub build_tied : normal f (degree f) a ≡ false → first_of (build_order f a room) ≡ refuse 5 0
+    pub build_tied : normal f (degree f) a ≡ false → first_of (build_order f a room) ≡ refuse faults.NotNormal 0
     build_tied e = past_room ∙ past-field f (degree f) a accepted ∙ first-applies (normal_rule f (degree f) a) [] (rw e)
 
   pub build_issues : Based f (degree f) a → record_size * degree f ≤ room → first_of (build_order f a room) ≡ clear

@@ -28,6 +28,7 @@ use Rattle.sheet.specs.Rebuilding.{sheet_bytes-length}
 use Rattle.sheet.specs.Reading.{record_at_byte}
 use Rattle.sheet.specs.Columns.{degree_written, row_written, tail_written, conjugate_written, inverse_written, table_written}
 use Rattle.sheet.specs.Written.{same_equal, same_refl}
+use Rattle.refusals.specs.declared.fault.Fault.TheVariants as faults
 
 word : (n v : ℕ) → n ≤ limit → v < 2 ^ n → v < 256 ^ word_size
 word n v h l = omega (arith, pow_mono h)
@@ -133,8 +134,8 @@ module _ (f n a : ℕ) (deg : Degree f n) (two : 2 ≤ n) (most : n ≤ limit) (
   unfolding record_rules
   walk zero i h = first-none
   walk (suc k) i h =
-      first_passes (record { number = 8; place = i; applies = misplaced sheet i }) _ (in_place i (omega arith))
-      ∙ first_passes (record { number = 9; place = i; applies = oversized sheet i }) _ (in_size i (omega arith))
+      first_passes (record { fault = faults.Misplaced; place = i; applies = misplaced sheet i }) _ (in_place i (omega arith))
+      ∙ first_passes (record { fault = faults.Oversized; place = i; applies = oversized sheet i }) _ (in_size i (omega arith))
       ∙ walk k (i + 1) (omega arith)
 
   pub written_shape : first_of (shape_order sheet) ≡ clear
@@ -158,14 +159,14 @@ pub itself_clear : (sheet : List ℕ) (i k : ℕ) → first_of (differ_rules she
 unfolding differ_rules
 itself_clear sheet i zero = first-none
 itself_clear sheet i (suc k) =
-    first_passes (record { number = 10; place = i; applies = not (same (record_at sheet i) (record_at sheet i)) }) _ (rw (same_refl (record_at sheet i)))
+    first_passes (record { fault = faults.Differs; place = i; applies = not (same (record_at sheet i) (record_at sheet i)) }) _ (rw (same_refl (record_at sheet i)))
     ∙ itself_clear sheet (i + 1) k
 
 records_same : (sheet rebuilt : List ℕ) (k i : ℕ) → first_of (differ_rules sheet rebuilt i k) ≡ clear → (j : ℕ) → j < k → record_at sheet (i + j) ≡ record_at rebuilt (i + j)
 unfolding differ_rules
 records_same sheet rebuilt zero i e j h = absurd (omega arith)
 records_same sheet rebuilt (suc k) i e j h =
-    let s = first-clear (record { number = 10; place = i; applies = not (same (record_at sheet i) (record_at rebuilt i)) }) (differ_rules sheet rebuilt (i + 1) k) e in
+    let s = first-clear (record { fault = faults.Differs; place = i; applies = not (same (record_at sheet i) (record_at rebuilt i)) }) (differ_rules sheet rebuilt (i + 1) k) e in
     ⊎_elim
     (λ (u : j < 1). let z : i + j ≡ i = omega arith in rw z (same_equal (record_at sheet i) (record_at rebuilt i) (not-false (same (record_at sheet i) (record_at rebuilt i)) s.0)))
     (λ (u : 1 ≤ j). let z : i + 1 + (j - 1) ≡ i + j = omega arith in rw z at (records_same sheet rebuilt k (i + 1) s.1 (j - 1) (omega arith)))

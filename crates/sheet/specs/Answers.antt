@@ -14,10 +14,8 @@
 -- Assumes nothing.
 use Rattle.std.specs.Prelude.{List, ◌++◌, map, ℕ, length, drop}
 use Rattle.gf2.specs.Poly.{degree, rem}
-use Rattle.refusals.specs.Verdicts.{Verdict, clear, refuse, first_of}
+use Rattle.refusals.specs.Verdicts.{fault_number, Verdict, clear, refuse, first_of}
 use Rattle.refusals.specs.Answers.{Report, answer_of, left, report_of, value_of, checked_of}
-use Rattle.refusals.specs.declared.answer.Value.{Value}
-use Rattle.refusals.specs.declared.answer.Checked.{Checked}
 use Rattle.rows.specs.Rows.{comb}
 use Rattle.normal.specs.Normal.{table_rows, complexity}
 use Rattle.normal.specs.TableProduct.{table_product}
@@ -26,8 +24,9 @@ use Rattle.normal.specs.Grades.{grade_of, grade_number}
 use Rattle.sheet.specs.Record.{record_count, conjugate_in, polynomial_in, conjugate_rows_in, inverse_rows_in, table_rows_in, sheet_bytes}
 use Rattle.sheet.specs.Orders.{build_order, read_order, polynomial_order, normal_order, times_order, inverse_order, quotient_order, polynomial_list_order, normal_list_order}
 use Rattle.sheet.specs.declared.answer.Summary.{Summary}
-use Rattle.sheet.specs.declared.answer.Issued.{Issued}
-use Rattle.sheet.specs.declared.answer.Issued.TheVariants as issued
+use Rattle.std.specs.Prelude.{Result, Ok, Err}
+use Rattle.refusals.specs.Answers.{Checked}
+use Rattle.refusals.specs.declared.answer.Refusal.{Refusal}
 
 -- ---- build and reading
 
@@ -41,14 +40,14 @@ pub record Issue : Type 0 where
 -- "Done is 0 with place 0." "A refusal's other values are zero"
 unfoldable pub issue_of : Verdict → Summary → Issue
 issue_of clear s = record { number = 0; place = 0; degree = s.degree; complexity = s.complexity; grade = grade_number s.grade }
-issue_of (refuse k p) s = record { number = k; place = p; degree = 0; complexity = 0; grade = 0 }
+issue_of (refuse k p) s = record { number = fault_number k; place = p; degree = 0; complexity = 0; grade = 0 }
 
-abbrev pub issued_of : Verdict → Summary → Issued
-issued_of v s = answer_of issued.Refused (issued.Done s) v
+abbrev pub issued_of : Verdict → Summary → Result Summary Refusal
+issued_of v s = answer_of Err (Ok s) v
 
-unfoldable pub issued_report : Issued → Issue
-issued_report (issued.Done s) = record { number = 0; place = 0; degree = s.degree; complexity = s.complexity; grade = grade_number s.grade }
-issued_report (issued.Refused r) = record { number = r.number; place = r.place; degree = 0; complexity = 0; grade = 0 }
+unfoldable pub issued_report : Result Summary Refusal → Issue
+issued_report (Ok s) = record { number = 0; place = 0; degree = s.degree; complexity = s.complexity; grade = grade_number s.grade }
+issued_report (Err r) = record { number = fault_number r.fault; place = r.place; degree = 0; complexity = 0; grade = 0 }
 
 -- "Build and reading answer n, complexity and grade": of f, of degree n, the element a and its table
 abbrev pub summary_with : (f n a : ℕ) (table : List ℕ) → Summary
@@ -57,7 +56,7 @@ summary_with f n a table = record { degree = n; complexity = complexity table; g
 unfoldable pub summary_of : (f n a : ℕ) → Summary
 summary_of f n a = summary_with f n a (table_rows f n a)
 
-unfoldable pub build_answer : (f a room : ℕ) → Issued
+unfoldable pub build_answer : (f a room : ℕ) → Result Summary Refusal
 build_answer f a room = issued_of (first_of (build_order f a room)) (summary_of f (degree f) a)
 
 unfoldable pub build_report : (f a room : ℕ) → Issue
@@ -74,7 +73,7 @@ built_buffer f a buffer = left (first_of (build_order f a (length buffer))) (at_
 abbrev pub summary_in : (sheet : List ℕ) → Summary
 summary_in sheet = summary_of (polynomial_in sheet) (record_count sheet) (conjugate_in sheet 0)
 
-unfoldable pub read_answer : (sheet : List ℕ) → Issued
+unfoldable pub read_answer : (sheet : List ℕ) → Result Summary Refusal
 read_answer sheet = issued_of (first_of (read_order sheet)) (summary_in sheet)
 
 unfoldable pub read_report : (sheet : List ℕ) → Issue
@@ -86,7 +85,7 @@ read_report sheet = issue_of (first_of (read_order sheet)) (summary_in sheet)
 unfoldable pub to_polynomial : (sheet : List ℕ) (coordinates : ℕ) → ℕ
 to_polynomial sheet coordinates = comb (conjugate_rows_in sheet) coordinates
 
-unfoldable pub polynomial_answer : (sheet : List ℕ) (coordinates : ℕ) → Value
+unfoldable pub polynomial_answer : (sheet : List ℕ) (coordinates : ℕ) → Result ℕ Refusal
 polynomial_answer sheet coordinates = value_of (first_of (polynomial_order sheet coordinates)) (to_polynomial sheet coordinates)
 
 unfoldable pub polynomial_report : (sheet : List ℕ) (coordinates : ℕ) → Report
@@ -101,7 +100,7 @@ element_in sheet word = rem (polynomial_in sheet) (record_count sheet) word
 unfoldable pub to_normal : (sheet : List ℕ) (word : ℕ) → ℕ
 to_normal sheet word = comb (inverse_rows_in sheet) (element_in sheet word)
 
-unfoldable pub normal_answer : (sheet : List ℕ) (word : ℕ) → Value
+unfoldable pub normal_answer : (sheet : List ℕ) (word : ℕ) → Result ℕ Refusal
 normal_answer sheet word = value_of (first_of (normal_order sheet)) (to_normal sheet word)
 
 unfoldable pub normal_report : (sheet : List ℕ) (word : ℕ) → Report
@@ -111,7 +110,7 @@ normal_report sheet word = report_of (first_of (normal_order sheet)) (to_normal 
 unfoldable pub through_table : (sheet : List ℕ) (a b : ℕ) → ℕ
 through_table sheet a b = table_product (record_count sheet) (table_rows_in sheet) a b
 
-unfoldable pub times_answer : (sheet : List ℕ) (a b : ℕ) → Value
+unfoldable pub times_answer : (sheet : List ℕ) (a b : ℕ) → Result ℕ Refusal
 times_answer sheet a b = value_of (first_of (times_order sheet a b)) (through_table sheet a b)
 
 unfoldable pub times_report : (sheet : List ℕ) (a b : ℕ) → Report
@@ -123,7 +122,7 @@ times_report sheet a b = report_of (first_of (times_order sheet a b)) (through_t
 unfoldable pub inverse_through : (sheet : List ℕ) (a : ℕ) → ℕ
 inverse_through sheet a = inverse_of (record_count sheet) (table_rows_in sheet) a
 
-unfoldable pub inverse_answer : (sheet : List ℕ) (a : ℕ) → Value
+unfoldable pub inverse_answer : (sheet : List ℕ) (a : ℕ) → Result ℕ Refusal
 inverse_answer sheet a = value_of (first_of (inverse_order sheet a)) (inverse_through sheet a)
 
 unfoldable pub inverse_report : (sheet : List ℕ) (a : ℕ) → Report
@@ -133,7 +132,7 @@ inverse_report sheet a = report_of (first_of (inverse_order sheet a)) (inverse_t
 unfoldable pub quotient_through : (sheet : List ℕ) (dividend divisor : ℕ) → ℕ
 quotient_through sheet dividend divisor = quotient_of (record_count sheet) (table_rows_in sheet) dividend divisor
 
-unfoldable pub quotient_answer : (sheet : List ℕ) (dividend divisor : ℕ) → Value
+unfoldable pub quotient_answer : (sheet : List ℕ) (dividend divisor : ℕ) → Result ℕ Refusal
 quotient_answer sheet dividend divisor = value_of (first_of (quotient_order sheet dividend divisor)) (quotient_through sheet dividend divisor)
 
 unfoldable pub quotient_report : (sheet : List ℕ) (dividend divisor : ℕ) → Report

@@ -16,6 +16,7 @@ use Rattle.sheet.specs.Record.{records_to, tail_of, sheet_bytes}
 use Rattle.sheet.specs.Orders.{normal_rule}
 use Rattle.sheet.specs.Bytes.{pasted}
 use Rattle.sheet.specs.Answers.{summary_with, summary_of, at_front}
+use Rattle.refusals.specs.declared.fault.Fault.TheVariants as faults
 
 -- ---- what building a basis answers
 
@@ -36,7 +37,7 @@ module _ (f n a : ℕ) {r : Built} (e : r ≡ built_of f n a) where
   flag : r.normal ≡ normal f n a
   flag = ap (λ (x : Built). x.normal) e ∙ built_flag f n a
 
-  pub normal-refused : (rest : List Rule) → not r.normal ≡ true → first_of (normal_rule f n a ∷ rest) ≡ refuse 5 0
+  pub normal-refused : (rest : List Rule) → not r.normal ≡ true → first_of (normal_rule f n a ∷ rest) ≡ refuse faults.NotNormal 0
   normal-refused rest t = first-applies (normal_rule f n a) rest (rw (← flag) t)
 
   module _ (t : not r.normal ≡ false) where

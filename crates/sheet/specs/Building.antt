@@ -17,13 +17,13 @@ use Rattle.sheet.specs.Orders.{normal_rule, room_rule, room_order, build_order}
 use Rattle.sheet.specs.Answers.{issued_of, issued_report, summary_of, build_answer, build_report, at_front, built_buffer}
 use Rattle.sheet.specs.Answered.{issued_promised}
 use Rattle.sheet.specs.declared.answer.Summary.{Summary}
-use Rattle.sheet.specs.declared.answer.Issued.{Issued}
-use Rattle.sheet.specs.declared.answer.Issued.TheVariants as issued
+use Rattle.std.specs.Prelude.{Result, Ok, Err}
+use Rattle.refusals.specs.declared.fault.Fault.TheVariants as faults
 
 -- ---- 6
 
 module _ (f n room : ℕ) where
-  pub room-short : room < record_size * n → first_of (room_rule n room ∷ field_order f) ≡ refuse 6 0
+  pub room-short : room < record_size * n → first_of (room_rule n room ∷ field_order f) ≡ refuse faults.NoRoom 0
   room-short h = first-applies (room_rule n room) _ (lt-ltb room (record_size * n) h)
 
   pub room-enough : record_size * n ≤ room → first_of (room_rule n room ∷ field_order f) ≡ first_of (field_order f)
@@ -40,16 +40,16 @@ room_judged f n a room en e =
 -- ---- the answer, its report, and the buffer
 
 module _ (f a : ℕ) (buffer : List ℕ) where
-  pub build-refused : {r : Refusal} → first_of (build_order f a (length buffer)) ≡ refuse r.number r.place
-      → (issued.Refused r ≡ build_answer f a (length buffer)) × ((issued_report (issued.Refused r) ≡ build_report f a (length buffer)) × (buffer ≡ built_buffer f a buffer))
+  pub build-refused : {r : Refusal} → first_of (build_order f a (length buffer)) ≡ refuse r.fault r.place
+      → (Err r ≡ build_answer f a (length buffer)) × ((issued_report (Err r) ≡ build_report f a (length buffer)) × (buffer ≡ built_buffer f a buffer))
   unfolding build_answer build_report built_buffer
   build-refused {r} e =
       let s : Summary = summary_of f (degree f) a in
-      let p = issued_promised (first_of (build_order f a (length buffer))) s (answer-refused issued.Refused (issued.Done s) {r = r} e) in
+      let p = issued_promised (first_of (build_order f a (length buffer))) s (answer-refused Err (Ok s) {r = r} e) in
       (p.0, (p.1, left-refused _ buffer e))
 
   -- condition 5 decides
-  pub build-rest : (n : ℕ) {r : Issued} {last : List ℕ} → n ≡ degree f
+  pub build-rest : (n : ℕ) {r : Result Summary Refusal} {last : List ℕ} → n ≡ degree f
       → first_of (build_order f a (length buffer)) ≡ first_of (normal_rule f (degree f) a ∷ [])
       → r ≡ issued_of (first_of (normal_rule f n a ∷ [])) (summary_of f n a)
       → last ≡ left (first_of (normal_rule f n a ∷ [])) (at_front (sheet_bytes f n a) buffer) buffer

@@ -20,12 +20,14 @@ use Prim.Native.Nat.{ℕ, ◌<◌}
 use Rattle.refusals.specs.Answers.{refusal_at, answer_of, value_of}
 use Rattle.refusals.specs.Orders.{part-refused, part-clear}
 use Rattle.refusals.specs.Verdicts.{Rule, Verdict, clear, refuse, first_of}
-use Rattle.refusals.specs.declared.answer.Value.TheVariants as value
 use Rattle.normal.proofs.Recursion.{quotient-zero}
 use Rattle.sheet.specs.Record.{record_count, table_rows_in}
 use Rattle.sheet.specs.Orders.{value_order, zero_rule}
 use Rattle.sheet.specs.Answers.{inverse_through, inverse_answer, quotient_through}
 use Rattle.sheet.specs.Dividing.{zero-applies, zero-passes}
+use Rattle.std.specs.Prelude.{Ok, Err}
+use Rattle.refusals.specs.declared.fault.Fault.TheVariants as faults
+use Rattle.refusals.specs.declared.fault.Fault.{Fault}
 
 -- ---- any sheet: 7, 8, 9 and 4 come first
 
@@ -33,17 +35,17 @@ module _ (sheet : List ℕ) (v : ℕ) where
   abbrev values : List Rule
   values = value_order sheet (v ∷ [])
 
-  pub inverse_earlier : (k p : ℕ) → first_of (value_order sheet (v ∷ [])) ≡ refuse k p → inverse_answer sheet v ≡ value.Refused (refusal_at k p)
+  pub inverse_earlier : (k : Fault) (p : ℕ) → first_of (value_order sheet (v ∷ [])) ≡ refuse k p → inverse_answer sheet v ≡ Err (refusal_at k p)
   unfolding inverse_answer answer_of
   inverse_earlier k p e = ap (λ (w : Verdict). value_of w (inverse_through sheet v)) (part-refused values (zero_rule v ∷ []) k p e)
 
   module _ (c : first_of (value_order sheet (v ∷ [])) ≡ clear) where
     -- "number to invert zero"
-    pub inverse_of_zero : v ≡ 0 → inverse_answer sheet v ≡ value.Refused (refusal_at 13 0)
+    pub inverse_of_zero : v ≡ 0 → inverse_answer sheet v ≡ Err (refusal_at faults.ZeroDivisor 0)
     unfolding inverse_answer answer_of
     inverse_of_zero e = ap (λ (w : Verdict). value_of w (inverse_through sheet v)) (part-clear values (zero_rule v ∷ []) c ∙ zero-applies v e)
 
-    pub inverse_steps : 0 < v → inverse_answer sheet v ≡ value.Done (inverse_through sheet v)
+    pub inverse_steps : 0 < v → inverse_answer sheet v ≡ Ok (inverse_through sheet v)
     unfolding inverse_answer answer_of
     inverse_steps p = ap (λ (w : Verdict). value_of w (inverse_through sheet v)) (part-clear values (zero_rule v ∷ []) c ∙ zero-passes v (λ e. omega arith))
 

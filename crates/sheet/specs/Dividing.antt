@@ -7,10 +7,11 @@ use Rattle.std.proofs.Common.{◌∙◌, eq-eqb, ne_eqb}
 use Rattle.refusals.specs.Verdicts.{clear, refuse, first_of}
 use Rattle.refusals.specs.Orders.{first-applies, first_passes, first-none}
 use Rattle.sheet.specs.Orders.{zero_rule}
+use Rattle.refusals.specs.declared.fault.Fault.TheVariants as faults
 
 -- ---- 13
 
-pub zero-applies : (v : ℕ) → v ≡ 0 → first_of (zero_rule v ∷ []) ≡ refuse 13 0
+pub zero-applies : (v : ℕ) → v ≡ 0 → first_of (zero_rule v ∷ []) ≡ refuse faults.ZeroDivisor 0
 zero-applies v e = first-applies (zero_rule v) [] (eq-eqb v 0 e)
 
 pub zero-passes : (v : ℕ) → (v ≡ 0 → ⊥) → first_of (zero_rule v ∷ []) ≡ clear

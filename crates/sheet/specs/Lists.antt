@@ -13,6 +13,7 @@ use Rattle.refusals.specs.Orders.{first-applies, first_passes, first-none, first
 use Rattle.field.specs.Refusals.{too_large_lem}
 use Rattle.field.specs.Orders.{not_too_large}
 use Rattle.sheet.specs.Orders.{list_limit, list_rule, value_rules, Small}
+use Rattle.refusals.specs.declared.fault.Fault.TheVariants as faults
 
 unfoldable pub first_large_lem : (n i : ℕ) → List ℕ → ℕ
 first_large_lem n i [] = i
@@ -35,13 +36,13 @@ module _ (n : ℕ) (values : List ℕ) (i : ℕ) where
 
 -- ---- condition 4 by that index
 
-pub large_verdict : (n i : ℕ) (values : List ℕ) → first_large_lem n i values < i + length values → first_of (value_rules n i values) ≡ refuse 4 (first_large_lem n i values)
+pub large_verdict : (n i : ℕ) (values : List ℕ) → first_large_lem n i values < i + length values → first_of (value_rules n i values) ≡ refuse faults.TooLarge (first_large_lem n i values)
 unfolding first_large_lem value_rules first_of
 large_verdict n i [] h = absurd (omega arith)
 large_verdict n i (v ∷ vs) h = go (too_large_lem n v) refl (large_verdict n (i + 1) vs)
   where
-    go : (b : Bool) → too_large_lem n v ≡ b → (first_large_lem n (i + 1) vs < i + 1 + length vs → first_of (value_rules n (i + 1) vs) ≡ refuse 4 (first_large_lem n (i + 1) vs))
-        → first_of (value_rules n i (v ∷ vs)) ≡ refuse 4 (first_large_lem n i (v ∷ vs))
+    go : (b : Bool) → too_large_lem n v ≡ b → (first_large_lem n (i + 1) vs < i + 1 + length vs → first_of (value_rules n (i + 1) vs) ≡ refuse faults.TooLarge (first_large_lem n (i + 1) vs))
+        → first_of (value_rules n i (v ∷ vs)) ≡ refuse faults.TooLarge (first_large_lem n i (v ∷ vs))
     go true e ih = rw e
     go false e ih = let l : first_large_lem n (i + 1) vs < i + suc (length vs) = rw e at h in rw e (ih (omega arith))
 
@@ -57,11 +58,11 @@ small_verdict n i (v ∷ vs) h = go (too_large_lem n v) refl (small_verdict n (i
 -- ---- condition 11
 
 module _ (values room : ℕ) where
-  pub lengths_differ : (values ≡ room → ⊥) → first_of (list_rule values room ∷ []) ≡ refuse 11 0
+  pub lengths_differ : (values ≡ room → ⊥) → first_of (list_rule values room ∷ []) ≡ refuse faults.BadList 0
   lengths_differ e = first-applies (list_rule values room) [] (rw (ne_eqb values room e))
 
   module _ (e : values ≡ room) where
-    pub list_too_long : list_limit < values → first_of (list_rule values room ∷ []) ≡ refuse 11 0
+    pub list_too_long : list_limit < values → first_of (list_rule values room ∷ []) ≡ refuse faults.BadList 0
     list_too_long h = first-applies (list_rule values room) [] (rw (eq-eqb values room e, lt-ltb list_limit values h))
 
     pub list_fits : values ≤ list_limit → first_of (list_rule values room ∷ []) ≡ clear
@@ -71,9 +72,9 @@ module _ (values room : ℕ) where
 pub coordinates-small : (n i : ℕ) (values : List ℕ) → first_of (value_rules n i values) ≡ clear → Small n values
 unfolding value_rules
 coordinates-small n i [] e j l = absurd (not-suc-le-zero l)
-coordinates-small n i (v ∷ vs) e zero l = not_too_large n v (first-clear (record { number = 4; place = i; applies = too_large_lem n v }) _ e).0
+coordinates-small n i (v ∷ vs) e zero l = not_too_large n v (first-clear (record { fault = faults.TooLarge; place = i; applies = too_large_lem n v }) _ e).0
 coordinates-small n i (v ∷ vs) e (suc j) l =
-    coordinates-small n (i + 1) vs (first-clear (record { number = 4; place = i; applies = too_large_lem n v }) _ e).1 j (le_of_suc-le-suc l)
+    coordinates-small n (i + 1) vs (first-clear (record { fault = faults.TooLarge; place = i; applies = too_large_lem n v }) _ e).1 j (le_of_suc-le-suc l)
 
 -- ---- filling the list
 

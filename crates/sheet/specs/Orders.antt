@@ -14,23 +14,24 @@ use Rattle.refusals.specs.Verdicts.{Rule}
 use Rattle.field.specs.Refusals.{too_large_lem, element_order, operand_order, field_order}
 use Rattle.normal.specs.Normal.{normal}
 use Rattle.sheet.specs.Record.{record_size, record_count, degree_in, row_in, tail_in, conjugate_in, inverse_in, table_in, record_at, polynomial_in, sheet_bytes}
+use Rattle.refusals.specs.declared.fault.Fault.TheVariants as faults
 
 -- ---- the rows of the table
 
 -- "the element is not normal"
 abbrev pub normal_rule : (f n a : ℕ) → Rule
-normal_rule f n a = record { number = 5; place = 0; applies = not (normal f n a) }
+normal_rule f n a = record { fault = faults.NotNormal; place = 0; applies = not (normal f n a) }
 
 -- "buffer to be written is shorter than 32n bytes"
 abbrev pub room_rule : (n room : ℕ) → Rule
-room_rule n room = record { number = 6; place = 0; applies = ltb room (record_size * n) }
+room_rule n room = record { fault = faults.NoRoom; place = 0; applies = ltb room (record_size * n) }
 
 -- "sheet length is not 32 times a count of 2 to 46"
 unfoldable pub bad_length : (size : ℕ) → Bool
 bad_length size = not (eqb (size % record_size) 0) || ltb (size / record_size) 2 || ltb limit (size / record_size)
 
 abbrev pub length_rule : (sheet : List ℕ) → Rule
-length_rule sheet = record { number = 7; place = 0; applies = bad_length (length sheet) }
+length_rule sheet = record { fault = faults.BadLength; place = 0; applies = bad_length (length sheet) }
 
 -- "a record's degree is not the record count, its row number is not its place, or bytes 2-7 differ from record 0"
 unfoldable pub misplaced : (sheet : List ℕ) (i : ℕ) → Bool
@@ -47,8 +48,8 @@ oversized sheet i =
 unfoldable pub record_rules : (sheet : List ℕ) (i k : ℕ) → List Rule
 record_rules sheet i zero = []
 record_rules sheet i (suc k) =
-    record { number = 8; place = i; applies = misplaced sheet i }
-    ∷ record { number = 9; place = i; applies = oversized sheet i }
+    record { fault = faults.Misplaced; place = i; applies = misplaced sheet i }
+    ∷ record { fault = faults.Oversized; place = i; applies = oversized sheet i }
     ∷ record_rules sheet (i + 1) k
 
 -- two lists of bytes are equal
@@ -62,7 +63,7 @@ same (x ∷ xs) (y ∷ ys) = eqb x y && same xs ys
 unfoldable pub differ_rules : (sheet rebuilt : List ℕ) (i k : ℕ) → List Rule
 differ_rules sheet rebuilt i zero = []
 differ_rules sheet rebuilt i (suc k) =
-    record { number = 10; place = i; applies = not (same (record_at sheet i) (record_at rebuilt i)) } ∷ differ_rules sheet rebuilt (i + 1) k
+    record { fault = faults.Differs; place = i; applies = not (same (record_at sheet i) (record_at rebuilt i)) } ∷ differ_rules sheet rebuilt (i + 1) k
 
 -- the most values that a list may have
 abbrev pub list_limit : ℕ
@@ -70,16 +71,16 @@ list_limit = 4096
 
 -- "list lengths differ or exceed 4,096"
 abbrev pub list_rule : (values room : ℕ) → Rule
-list_rule values room = record { number = 11; place = 0; applies = not (eqb values room) || ltb list_limit values }
+list_rule values room = record { fault = faults.BadList; place = 0; applies = not (eqb values room) || ltb list_limit values }
 
 -- a "coordinate number .. is 2^n or more": "first such index in a list", counted from i
 unfoldable pub value_rules : (n i : ℕ) → List ℕ → List Rule
 value_rules n i [] = []
-value_rules n i (v ∷ vs) = record { number = 4; place = i; applies = too_large_lem n v } ∷ value_rules n (i + 1) vs
+value_rules n i (v ∷ vs) = record { fault = faults.TooLarge; place = i; applies = too_large_lem n v } ∷ value_rules n (i + 1) vs
 
 -- "13, divisor or number to invert zero"
 abbrev pub zero_rule : (v : ℕ) → Rule
-zero_rule v = record { number = 13; place = 0; applies = eqb v 0 }
+zero_rule v = record { fault = faults.ZeroDivisor; place = 0; applies = eqb v 0 }
 
 -- ---- the orders
 

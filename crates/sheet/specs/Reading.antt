@@ -16,6 +16,7 @@ use borrow.Author.Tests.{eq-eqb, ne_eqb}
 use Rattle.refusals.specs.Verdicts.{clear, refuse, first_of}
 use Rattle.sheet.specs.Record.{record_size, record_count, record_at, conjugate_in, polynomial_in}
 use Rattle.sheet.specs.Orders.{same, differ_rules, Shaped}
+use Rattle.refusals.specs.declared.fault.Fault.TheVariants as faults
 
 pub record Rebuilt (sheet : List ℕ) (f n a : ℕ) : Type 0 where
   pub shaped : Shaped sheet
@@ -84,13 +85,13 @@ differing_front sheet rebuilt rest i (suc k) h =
 
 -- ---- condition 10 by that record
 
-pub differ_verdict : (sheet rebuilt : List ℕ) (i k : ℕ) → first_differing sheet rebuilt i k < i + k → first_of (differ_rules sheet rebuilt i k) ≡ refuse 10 (first_differing sheet rebuilt i k)
+pub differ_verdict : (sheet rebuilt : List ℕ) (i k : ℕ) → first_differing sheet rebuilt i k < i + k → first_of (differ_rules sheet rebuilt i k) ≡ refuse faults.Differs (first_differing sheet rebuilt i k)
 unfolding first_differing differ_rules first_of differs
 differ_verdict sheet rebuilt i zero h = absurd (omega arith)
 differ_verdict sheet rebuilt i (suc k) h = go (differs sheet rebuilt i) refl (differ_verdict sheet rebuilt (i + 1) k)
   where
-    go : (b : Bool) → differs sheet rebuilt i ≡ b → (first_differing sheet rebuilt (i + 1) k < i + 1 + k → first_of (differ_rules sheet rebuilt (i + 1) k) ≡ refuse 10 (first_differing sheet rebuilt (i + 1) k))
-        → first_of (differ_rules sheet rebuilt i (suc k)) ≡ refuse 10 (first_differing sheet rebuilt i (suc k))
+    go : (b : Bool) → differs sheet rebuilt i ≡ b → (first_differing sheet rebuilt (i + 1) k < i + 1 + k → first_of (differ_rules sheet rebuilt (i + 1) k) ≡ refuse faults.Differs (first_differing sheet rebuilt (i + 1) k))
+        → first_of (differ_rules sheet rebuilt i (suc k)) ≡ refuse faults.Differs (first_differing sheet rebuilt i (suc k))
     go true e ih = rw e
     go false e ih = let l : first_differing sheet rebuilt (i + 1) k < i + suc k = rw e at h in rw e (ih (omega arith))
 

@@ -12,6 +12,7 @@ use Rattle.refusals.specs.Orders.{first-applies, first_passes}
 use Rattle.gf2.specs.Truth.{or_false}
 use Rattle.sheet.specs.Record.{record_size, record_count, degree_in, row_in, tail_in, conjugate_in, inverse_in, table_in}
 use Rattle.sheet.specs.Orders.{bad_length, misplaced, oversized, record_rules, shape_order, length_rule, Sized}
+use Rattle.refusals.specs.declared.fault.Fault.TheVariants as faults
 
 -- ---- refusal 7
 
@@ -84,7 +85,7 @@ pub walk-done : (sheet : List ℕ) (i n : ℕ) → n ≤ i → first_of (record_
 unfolding record_rules first_of
 walk-done sheet i n h = let z : n - i ≡ 0 = omega arith in rw z
 
-pub shape-short : (sheet : List ℕ) → bad_length (length sheet) ≡ true → first_of (shape_order sheet) ≡ refuse 7 0
+pub shape-short : (sheet : List ℕ) → bad_length (length sheet) ≡ true → first_of (shape_order sheet) ≡ refuse faults.BadLength 0
 shape-short sheet e = first-applies (length_rule sheet) _ e
 
 pub shape-long : (sheet : List ℕ) → bad_length (length sheet) ≡ false → first_of (shape_order sheet) ≡ first_of (record_rules sheet 0 (record_count sheet))

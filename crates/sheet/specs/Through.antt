@@ -15,6 +15,7 @@ use Rattle.refusals.specs.Verdicts.{clear, first_of}
 use Rattle.field.specs.Orders.{small-enough}
 use Rattle.field.specs.Refusals.{too_large_lem, any_too_large}
 use Rattle.sheet.specs.Orders.{value_rules, Small}
+use Rattle.refusals.specs.declared.fault.Fault.TheVariants as faults
 
 -- ---- values below 2^n
 
@@ -28,5 +29,5 @@ pub all_small : (n i : ℕ) (values : List ℕ) → Small n values → first_of 
 unfolding value_rules
 all_small n i [] all = first-none
 all_small n i (v ∷ vs) all =
-    first_passes (record { number = 4; place = i; applies = too_large_lem n v }) _ (small-enough n v (all 0 (omega arith)))
+    first_passes (record { fault = faults.TooLarge; place = i; applies = too_large_lem n v }) _ (small-enough n v (all 0 (omega arith)))
     ∙ all_small n (i + 1) vs (λ j h. all (suc j) (omega arith))

@@ -1,6 +1,5 @@
 // What building and reading a sheet answer.
 use normal::Grade;
-use refusals::Refusal;
 
 // "Build and reading answer n, complexity and grade" (document 01, "Refusal numbers").
 #[derive(Clone, Copy)]
@@ -8,10 +7,4 @@ pub struct Summary {
     pub degree: u32,
     pub complexity: u32,
     pub grade: Grade,
-}
-
-#[derive(Clone, Copy)]
-pub enum Issued {
-    Refused(Refusal),
-    Done(Summary),
 }

@@ -12,7 +12,7 @@ use super::shaped::Sheet;
 use field::elements_verdict;
 use gf2::element_of;
 use normal::{product_by_bytes, product_of};
-use refusals::{Checked, Value};
+use refusals::Refusal;
 use rows::{BYTE_SUMS, sum};
 
 // From this degree on a product takes the rows' sums from byte sums, though it makes these for itself alone. At degree 16 to 18 both ways
@@ -21,14 +21,14 @@ const BYTES_PAY: u32 = 20;
 
 impl<'a> Sheet<'a> {
     // The shape, which is good, then 4 for two numbers.
-    pub fn values_verdict(&self, a: u64, b: u64) -> Checked
+    pub fn values_verdict(&self, a: u64, b: u64) -> Result<(), Refusal>
         ensures { result ≡ checked_of (first_of (value_order self.now.bytes.now (a ∷ b ∷ []))) }
     {
         elements_verdict(self.degree(), a, b)
     }
 
     // The same for one number: it is judged as the same number given twice.
-    fn value_verdict(&self, value: u64) -> Checked
+    fn value_verdict(&self, value: u64) -> Result<(), Refusal>
         ensures { result ≡ checked_of (first_of (value_order self.now.bytes.now (value ∷ []))) }
     {
         self.values_verdict(value, value)
@@ -44,14 +44,11 @@ impl<'a> Sheet<'a> {
     }
 
     // The element that normal coordinates stand for.
-    fn to_polynomial(&self, coordinates: u64) -> Value
+    fn to_polynomial(&self, coordinates: u64) -> Result<u64, Refusal>
         ensures { result ≡ polynomial_answer self.now.bytes.now coordinates }
     {
-        let verdict = self.value_verdict(coordinates);
-        match verdict {
-            Checked::Refused(refusal) => Value::Refused(refusal),
-            Checked::Done => Value::Done(self.converted(CONJUGATE_AT, coordinates)),
-        }
+        self.value_verdict(coordinates)?;
+        Ok(self.converted(CONJUGATE_AT, coordinates))
     }
 
     // The element that a word stands for on a sheet: its remainder modulo the sheet's polynomial.
@@ -101,46 +98,37 @@ impl<'a> Sheet<'a> {
     }
 
     // The product of normal coordinates a and b.
-    fn times(&self, a: u64, b: u64) -> Value
+    fn times(&self, a: u64, b: u64) -> Result<u64, Refusal>
         ensures { result ≡ times_answer self.now.bytes.now a b }
     {
-        let verdict = self.values_verdict(a, b);
-        match verdict {
-            Checked::Refused(refusal) => Value::Refused(refusal),
-            Checked::Done => Value::Done(self.multiplied(a, b)),
-        }
+        self.values_verdict(a, b)?;
+        Ok(self.multiplied(a, b))
     }
 }
 
 // The element that normal coordinates stand for.
-pub fn to_polynomial(sheet: &[u8], coordinates: u64) -> Value
+pub fn to_polynomial(sheet: &[u8], coordinates: u64) -> Result<u64, Refusal>
     ensures answer { result ≡ polynomial_answer sheet.now coordinates }
     ensures report { value_report result ≡ polynomial_report sheet.now coordinates }
 {
-    match Sheet::judged(sheet) {
-        Ok(judged) => judged.to_polynomial(coordinates),
-        Err(refusal) => Value::Refused(refusal),
-    }
+    let judged = Sheet::judged(sheet)?;
+    judged.to_polynomial(coordinates)
 }
 
 // The normal coordinates of an element, which may arrive unreduced.
-pub fn to_normal(sheet: &[u8], word: u64) -> Value
+pub fn to_normal(sheet: &[u8], word: u64) -> Result<u64, Refusal>
     ensures answer { result ≡ normal_answer sheet.now word }
     ensures report { value_report result ≡ normal_report sheet.now word }
 {
-    match Sheet::judged(sheet) {
-        Ok(judged) => Value::Done(judged.to_normal(word)),
-        Err(refusal) => Value::Refused(refusal),
-    }
+    let judged = Sheet::judged(sheet)?;
+    Ok(judged.to_normal(word))
 }
 
 // The product of normal coordinates a and b.
-pub fn times(sheet: &[u8], a: u64, b: u64) -> Value
+pub fn times(sheet: &[u8], a: u64, b: u64) -> Result<u64, Refusal>
     ensures answer { result ≡ times_answer sheet.now a b }
     ensures report { value_report result ≡ times_report sheet.now a b }
 {
-    match Sheet::judged(sheet) {
-        Ok(judged) => judged.times(a, b),
-        Err(refusal) => Value::Refused(refusal),
-    }
+    let judged = Sheet::judged(sheet)?;
+    judged.times(a, b)
 }

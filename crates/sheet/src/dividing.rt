@@ -8,29 +8,26 @@ ghost use Rattle.sheet.specs.Answers.{inverse_through, inverse_answer, inverse_r
 
 use super::shaped::Sheet;
 use normal::{inverse_of, product_by_bytes};
-use refusals::{Checked, Value, refused};
+use refusals::{Fault, Refusal, refused};
 use rows::BYTE_SUMS;
 
 // 13 for a divisor or a number to invert that is zero.
-fn zero_verdict(value: u64) -> Checked
+fn zero_verdict(value: u64) -> Result<(), Refusal>
     ensures { result ≡ checked_of (first_of (zero_rule value ∷ [])) }
 {
     if value == 0 {
-        return refused(13);
+        return refused(Fault::ZeroDivisor);
     }
-    Checked::Done
+    Ok(())
 }
 
 impl<'a> Sheet<'a> {
     // The shape, which is good, then 4 for either number, then 13 for the divisor.
-    fn division_verdict(&self, dividend: u64, divisor: u64) -> Checked
+    fn division_verdict(&self, dividend: u64, divisor: u64) -> Result<(), Refusal>
         ensures { result ≡ checked_of (first_of (quotient_order self.now.bytes.now dividend divisor)) }
     {
-        let verdict = self.values_verdict(dividend, divisor);
-        match verdict {
-            Checked::Refused(refusal) => Checked::Refused(refusal),
-            Checked::Done => zero_verdict(divisor),
-        }
+        self.values_verdict(dividend, divisor)?;
+        zero_verdict(divisor)
     }
 
     // The inverse through the table.
@@ -44,14 +41,11 @@ impl<'a> Sheet<'a> {
     }
 
     // The inverse of normal coordinates a. It is judged as a divided by itself.
-    fn inverse(&self, a: u64) -> Value
+    fn inverse(&self, a: u64) -> Result<u64, Refusal>
         ensures { result ≡ inverse_answer self.now.bytes.now a }
     {
-        let verdict = self.division_verdict(a, a);
-        match verdict {
-            Checked::Refused(refusal) => Value::Refused(refusal),
-            Checked::Done => Value::Done(self.inverted(a)),
-        }
+        self.division_verdict(a, a)?;
+        Ok(self.inverted(a))
     }
 
     // The quotient through the table: the dividend stands before the inverse.
@@ -67,35 +61,28 @@ impl<'a> Sheet<'a> {
     }
 
     // The quotient of normal coordinates.
-    fn quotient(&self, dividend: u64, divisor: u64) -> Value
+    fn quotient(&self, dividend: u64, divisor: u64) -> Result<u64, Refusal>
         ensures { result ≡ quotient_answer self.now.bytes.now dividend divisor }
     {
-        let verdict = self.division_verdict(dividend, divisor);
-        match verdict {
-            Checked::Refused(refusal) => Value::Refused(refusal),
-            Checked::Done => Value::Done(self.divided(dividend, divisor)),
-        }
+        self.division_verdict(dividend, divisor)?;
+        Ok(self.divided(dividend, divisor))
     }
 }
 
 // The inverse of normal coordinates a.
-pub fn inverse(sheet: &[u8], a: u64) -> Value
+pub fn inverse(sheet: &[u8], a: u64) -> Result<u64, Refusal>
     ensures answer { result ≡ inverse_answer sheet.now a }
     ensures report { value_report result ≡ inverse_report sheet.now a }
 {
-    match Sheet::judged(sheet) {
-        Ok(judged) => judged.inverse(a),
-        Err(refusal) => Value::Refused(refusal),
-    }
+    let judged = Sheet::judged(sheet)?;
+    judged.inverse(a)
 }
 
 // The quotient of normal coordinates.
-pub fn quotient(sheet: &[u8], dividend: u64, divisor: u64) -> Value
+pub fn quotient(sheet: &[u8], dividend: u64, divisor: u64) -> Result<u64, Refusal>
     ensures answer { result ≡ quotient_answer sheet.now dividend divisor }
     ensures report { value_report result ≡ quotient_report sheet.now dividend divisor }
 {
-    match Sheet::judged(sheet) {
-        Ok(judged) => judged.quotient(dividend, divisor),
-        Err(refusal) => Value::Refused(refusal),
-    }
+    let judged = Sheet::judged(sheet)?;
+    judged.quotient(dividend, divisor)
 }

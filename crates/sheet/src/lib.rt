@@ -15,7 +15,7 @@ mod shape;
 mod shaped;
 mod unreduced;
 
-pub use answer::{Issued, Summary};
+pub use answer::Summary;
 pub use building::{build, summary_of};
 pub use converting::{times, to_normal, to_polynomial};
 pub use dividing::{inverse, quotient};

@@ -17,7 +17,7 @@ use super::shaped::Sheet;
 use super::unreduced::{convert_words, reduce_all};
 use field::too_large;
 use gf2::LIMIT;
-use refusals::{Checked, refused, refused_at};
+use refusals::{Fault, Refusal, refused, refused_at};
 use rows::{BYTE_SUMS, byte_sums, sum, sum_by_bytes};
 
 // The most values that a list may have.
@@ -79,26 +79,26 @@ fn convert_unreduced(rows: [u64; LIMIT], f: u64, n: u32, list: &mut [u64])
 }
 
 // 11.
-fn lengths_verdict(values: usize, room: usize) -> Checked
+fn lengths_verdict(values: usize, room: usize) -> Result<(), Refusal>
     ensures { result ≡ checked_of (first_of (list_rule values room ∷ [])) }
 {
     if values != room {
-        return refused(11);
+        return refused(Fault::BadList);
     }
     if LIST_LIMIT < values {
-        return refused(11);
+        return refused(Fault::BadList);
     }
-    Checked::Done
+    Ok(())
 }
 
 // 4 with the index of the first value that is too large.
-fn coordinates_verdict(n: u32, values: &[u64]) -> Checked
+fn coordinates_verdict(n: u32, values: &[u64]) -> Result<(), Refusal>
     requires { n < 64 }
     ensures { result ≡ checked_of (first_of (value_rules n 0 values.now)) }
 {
     match first_too_large(n, values) {
-        Some(place) => refused_at(4, place),
-        None => Checked::Done,
+        Some(place) => refused_at(Fault::TooLarge, place),
+        None => Ok(()),
     }
 }
 
@@ -124,74 +124,57 @@ impl<'a> Sheet<'a> {
     }
 
     // The shape, which is good, then 11.
-    fn list_verdict(&self, values: usize, room: usize) -> Checked
+    fn list_verdict(&self, values: usize, room: usize) -> Result<(), Refusal>
         ensures { result ≡ checked_of (first_of (list_order self.now.bytes.now values room)) }
     {
         lengths_verdict(values, room)
     }
 
     // The shape, which is good, then 11 and 4.
-    fn polynomial_list_verdict(&self, from: &[u64], room: usize) -> Checked
+    fn polynomial_list_verdict(&self, from: &[u64], room: usize) -> Result<(), Refusal>
         ensures { result ≡ checked_of (first_of (polynomial_list_order self.now.bytes.now from.now room)) }
     {
-        let list = self.list_verdict(from.len(), room);
-        match list {
-            Checked::Refused(refusal) => Checked::Refused(refusal),
-            Checked::Done => coordinates_verdict(self.degree(), from),
-        }
+        self.list_verdict(from.len(), room)?;
+        coordinates_verdict(self.degree(), from)
     }
 
     // The elements that a list of normal coordinates stands for.
-    fn list_to_polynomial(&self, from: &[u64], into: &mut [u64]) -> Checked
+    fn list_to_polynomial(&self, from: &[u64], into: &mut [u64]) -> Result<(), Refusal>
         ensures answer { result ≡ polynomial_list_answer self.now.bytes.now from.now (length into.old) }
         ensures written { into.new ≡ polynomial_list self.now.bytes.now from.now into.old }
     {
-        let verdict = self.polynomial_list_verdict(from, into.len());
-        match verdict {
-            Checked::Refused(refusal) => Checked::Refused(refusal),
-            Checked::Done => {
-                self.fill_polynomials(from, into);
-                Checked::Done
-            }
-        }
+        self.polynomial_list_verdict(from, into.len())?;
+        self.fill_polynomials(from, into);
+        Ok(())
     }
 
     // The normal coordinates of a list of elements, which may arrive unreduced.
-    fn list_to_normal(&self, from: &[u64], into: &mut [u64]) -> Checked
+    fn list_to_normal(&self, from: &[u64], into: &mut [u64]) -> Result<(), Refusal>
         ensures answer { result ≡ normal_list_answer self.now.bytes.now from.now (length into.old) }
         ensures written { into.new ≡ normal_list self.now.bytes.now from.now into.old }
     {
-        let verdict = self.list_verdict(from.len(), into.len());
-        match verdict {
-            Checked::Refused(refusal) => Checked::Refused(refusal),
-            Checked::Done => {
-                self.fill_coordinates(from, into);
-                Checked::Done
-            }
-        }
+        self.list_verdict(from.len(), into.len())?;
+        self.fill_coordinates(from, into);
+        Ok(())
     }
 }
 
 // The elements that a list of normal coordinates stands for.
-pub fn list_to_polynomial(sheet: &[u8], from: &[u64], into: &mut [u64]) -> Checked
+pub fn list_to_polynomial(sheet: &[u8], from: &[u64], into: &mut [u64]) -> Result<(), Refusal>
     ensures answer { result ≡ polynomial_list_answer sheet.now from.now (length into.old) }
     ensures report { checked_report result ≡ polynomial_list_report sheet.now from.now (length into.old) }
     ensures written { into.new ≡ polynomial_list sheet.now from.now into.old }
 {
-    match Sheet::judged(sheet) {
-        Ok(judged) => judged.list_to_polynomial(from, into),
-        Err(refusal) => Checked::Refused(refusal),
-    }
+    let judged = Sheet::judged(sheet)?;
+    judged.list_to_polynomial(from, into)
 }
 
 // The normal coordinates of a list of elements, which may arrive unreduced.
-pub fn list_to_normal(sheet: &[u8], from: &[u64], into: &mut [u64]) -> Checked
+pub fn list_to_normal(sheet: &[u8], from: &[u64], into: &mut [u64]) -> Result<(), Refusal>
     ensures answer { result ≡ normal_list_answer sheet.now from.now (length into.old) }
     ensures report { checked_report result ≡ normal_list_report sheet.now from.now (length into.old) }
     ensures written { into.new ≡ normal_list sheet.now from.now into.old }
 {
-    match Sheet::judged(sheet) {
-        Ok(judged) => judged.list_to_normal(from, into),
-        Err(refusal) => Checked::Refused(refusal),
-    }
+    let judged = Sheet::judged(sheet)?;
+    judged.list_to_normal(from, into)
 }

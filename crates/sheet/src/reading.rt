@@ -1,7 +1,6 @@
 // The public call read: the shape, then the polynomial and the basis, then every record against the one rebuilt.
 ghost use Rattle.std.specs.Prelude.{◌≡◌, ◌∷◌, ◌+◌, ◌*◌, ◌≤◌, ◌<◌, length, MatchOption};
 ghost use Rattle.gf2.specs.Limit.{limit};
-ghost use Rattle.gf2.specs.Spread.{SpreadTable};
 ghost use Rattle.refusals.specs.Verdicts.{first_of};
 ghost use Rattle.normal.specs.Basis.{basis_rows};
 ghost use Rattle.sheet.specs.Record.{record_size};
@@ -9,14 +8,14 @@ ghost use Rattle.sheet.specs.Orders.{normal_rule, differ_rules, rebuilt_from, re
 ghost use Rattle.sheet.specs.Answers.{summary_in, issued_of, issued_report, read_answer, read_report};
 ghost use Rattle.sheet.specs.Reading.{Rebuilt, differs, first_differing};
 
-use super::answer::Issued;
+use super::answer::Summary;
 use super::building::put_basis;
 use super::layout::{CONJUGATE_AT, RECORD, WORD, number_at};
 use super::shaped::Sheet;
 use field::field_verdict;
-use gf2::{LIMIT, spread_table};
+use gf2::{LIMIT, Spread};
 use normal::{Basis, build_basis};
-use refusals::{Checked, Refusal};
+use refusals::{Fault, Refusal};
 
 // Whether record i of two sheets differs.
 fn record_differs(sheet: &[u8], rebuilt: &[u8], i: usize) -> bool
@@ -41,7 +40,7 @@ fn first_differing(sheet: &[u8], rebuilt: &[u8], n: usize) -> Option<usize>
 }
 
 // The sheet of a basis, compared record by record: 10, or its summary.
-fn compared(sheet: &[u8], f: u64, n: u32, element: u64, basis: Basis) -> Issued
+fn compared(sheet: &[u8], f: u64, n: u32, element: u64, basis: Basis) -> Result<Summary, Refusal>
     requires { Rebuilt sheet.now f n element × (basis ≡ basis_rows f n element) }
     ensures { result ≡ issued_of (first_of (differ_rules sheet.now (rebuilt_from sheet.now) 0 n)) (summary_in sheet.now) }
 {
@@ -49,22 +48,28 @@ fn compared(sheet: &[u8], f: u64, n: u32, element: u64, basis: Basis) -> Issued
     let summary = put_basis(&mut rebuilt, f, n, element, basis);
     let count = n as usize;
     match first_differing(sheet, &rebuilt, count) {
-        Some(place) => Issued::Refused(Refusal { number: 10, place }),
-        None => Issued::Done(summary),
+        Some(place) => Err(Refusal {
+            fault: Fault::Differs,
+            place,
+        }),
+        None => Ok(summary),
     }
 }
 
 // The basis of record 0's conjugate, built and compared: 5, then 10.
-fn rebuilt_basis(spread: &[u16; 256], sheet: &[u8], f: u64, n: u32, element: u64) -> Issued
-    requires { SpreadTable spread.now × Rebuilt sheet.now f n element }
+fn rebuilt_basis(
+    spread: &Spread,
+    sheet: &[u8],
+    f: u64,
+    n: u32,
+    element: u64,
+) -> Result<Summary, Refusal>
+    requires { Rebuilt sheet.now f n element }
     ensures { result ≡ issued_of (first_of (normal_rule f n element ∷ differ_rules sheet.now (rebuilt_from sheet.now) 0 n)) (summary_in sheet.now) }
 {
     let built = build_basis(spread, f, n, element);
     if !built.normal {
-        return Issued::Refused(Refusal {
-            number: 5,
-            place: 0,
-        });
+        return Err(Refusal::from(Fault::NotNormal));
     }
     let basis = built.basis;
     compared(sheet, f, n, element, basis)
@@ -72,28 +77,23 @@ fn rebuilt_basis(spread: &[u16; 256], sheet: &[u8], f: u64, n: u32, element: u64
 
 impl<'a> Sheet<'a> {
     // The sheet, rebuilt from its polynomial and its record 0 conjugate, and compared: 2, 3, 5, 10.
-    fn rebuilt(&self) -> Issued
+    fn rebuilt(&self) -> Result<Summary, Refusal>
         ensures { result ≡ issued_of (first_of (rebuild_order self.now.bytes.now)) (summary_in self.now.bytes.now) }
     {
         let n = self.degree();
         let f = self.polynomial();
         let element = number_at(self.bytes, CONJUGATE_AT, WORD);
-        let spread = spread_table();
-        let field = field_verdict(&spread, f, n);
-        match field {
-            Checked::Refused(refusal) => Issued::Refused(refusal),
-            Checked::Done => rebuilt_basis(&spread, self.bytes, f, n, element),
-        }
+        let spread = Spread::new();
+        field_verdict(&spread, f, n)?;
+        rebuilt_basis(&spread, self.bytes, f, n, element)
     }
 }
 
 // Whether the sheet is one that build writes.
-pub fn read(sheet: &[u8]) -> Issued
+pub fn read(sheet: &[u8]) -> Result<Summary, Refusal>
     ensures answer { result ≡ read_answer sheet.now }
     ensures report { issued_report result ≡ read_report sheet.now }
 {
-    match Sheet::judged(sheet) {
-        Ok(judged) => judged.rebuilt(),
-        Err(refusal) => Issued::Refused(refusal),
-    }
+    let judged = Sheet::judged(sheet)?;
+    judged.rebuilt()
 }

@@ -12,7 +12,7 @@ use super::layout::{
 };
 use field::too_large;
 use gf2::LIMIT;
-use refusals::{Checked, refused, refused_at};
+use refusals::{Fault, Refusal, refused, refused_at};
 
 // Refusal 7: the length is not 32 times a count of 2 to 46.
 fn bad_length(size: usize) -> bool
@@ -60,21 +60,21 @@ fn is_oversized(sheet: &[u8], n: usize, i: usize) -> bool
 }
 
 // 7, then records from 0 upward with 8 before 9 in each.
-pub fn shape_verdict(sheet: &[u8]) -> Checked
+pub fn shape_verdict(sheet: &[u8]) -> Result<(), Refusal>
     ensures { result ≡ checked_of (first_of (shape_order sheet.now)) }
 {
     if bad_length(sheet.len()) {
-        return refused(7);
+        return refused(Fault::BadLength);
     }
     let n = sheet.len() / RECORD;
     let tail = number_at(sheet, TAIL_AT, TAIL);
     for i in 0..n {
         if is_misplaced(sheet, n, i, tail) {
-            return refused_at(8, i);
+            return refused_at(Fault::Misplaced, i);
         }
         if is_oversized(sheet, n, i) {
-            return refused_at(9, i);
+            return refused_at(Fault::Oversized, i);
         }
     }
-    Checked::Done
+    Ok(())
 }

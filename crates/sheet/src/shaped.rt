@@ -10,7 +10,7 @@ ghost use Rattle.sheet.specs.Orders.{Shaped, shape_order};
 use super::layout::{RECORD, TABLE_AT, TAIL, TAIL_AT, WORD, number_at};
 use super::shape::shape_verdict;
 use gf2::LIMIT;
-use refusals::{Checked, Refusal};
+use refusals::Refusal;
 use rows::{BYTE_SUMS, degree_sums};
 
 // The bytes of a sheet that neither 7 nor 8 nor 9 refuses.
@@ -23,12 +23,10 @@ pub struct Sheet<'a> {
 impl<'a> Sheet<'a> {
     // The shape: 7, then 8 before 9 record by record, or the sheet.
     pub fn judged(bytes: &'a [u8]) -> Result<Sheet<'a>, Refusal>
-        ensures { MatchResult result (λ sheet. sheet.bytes.now ≡ bytes.now) (λ refusal. first_of (shape_order bytes.now) ≡ refuse refusal.number refusal.place) }
+        ensures { MatchResult result (λ sheet. sheet.bytes.now ≡ bytes.now) (λ refusal. first_of (shape_order bytes.now) ≡ refuse refusal.fault refusal.place) }
     {
-        match shape_verdict(bytes) {
-            Checked::Refused(refusal) => Err(refusal),
-            Checked::Done => Ok(Sheet { bytes }),
-        }
+        shape_verdict(bytes)?;
+        Ok(Sheet { bytes })
     }
 
     // The number of records.

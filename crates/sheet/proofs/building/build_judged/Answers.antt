@@ -7,23 +7,23 @@ use lib.Pow.{pow_mono}
 use Rattle.refusals.specs.Orders.{first-none}
 use Rattle.refusals.specs.Answered.{answer-refused, answer-clear, left-refused, left-clear}
 use Rattle.sheet.specs.Basis.{normal-refused, normal_passed, normal-rows, sheet_written, summary_table}
-use Rattle.sheet.specs.declared.answer.Issued.TheVariants as issued
 use Rattle.sheet.proofs.building.build_judged.Goals as goal
+use Rattle.std.specs.Prelude.{Ok, Err}
 
 pub build_basis-built-requires : goal.build_basis-built-requires
 build_basis-built-requires c =
-    let e = c.requires.1 in
-    (c.requires.0, e.in_range.most, record { is_degree = e.in_range.is_degree; below = omega (arith, e.small, pow_mono e.in_range.two) })
+    let e = c.requires.0 in
+    (e.in_range.most, record { is_degree = e.in_range.is_degree; below = omega (arith, e.small, pow_mono e.in_range.two) })
 
 pub returns-then-not-built : goal.returns-then-not-built
 returns-then-not-built c =
     let v = normal-refused c.args.f c.args.n c.args.element c.build_basis-built.ensures [] c.if-not-built.true in record {
-      answer = answer-refused issued.Refused _ v;
+      answer = ap Err c.from.ensures ∙ answer-refused Err _ v;
       written = left-refused _ c.args.buffer.now v;
     }
 
 pub put_basis-requires : goal.put_basis-requires
-put_basis-requires c = (c.requires.1, c.requires.2)
+put_basis-requires c = (c.requires.0, c.requires.1)
 
 pub returns : goal.returns
 returns c =
@@ -32,6 +32,6 @@ returns c =
     let a = c.args.element in
     let v = normal_passed f n a c.build_basis-built.ensures c.if-not-built.false [] ∙ first-none in
     let rows = normal-rows f n a c.build_basis-built.ensures c.if-not-built.false in record {
-      answer = ap issued.Done (c.put_basis.ensures.summary ∙ summary_table f n a c.build_basis-built.result.basis rows) ∙ answer-clear issued.Refused _ v;
+      answer = ap Ok (c.put_basis.ensures.summary ∙ summary_table f n a c.build_basis-built.result.basis rows) ∙ answer-clear Err _ v;
       written = c.put_basis.ensures.written ∙ sheet_written f n a c.build_basis-built.result.basis c.args.buffer.now rows ∙ left-clear _ c.args.buffer.now v;
     }

@@ -7,7 +7,7 @@ use Rattle.sheet.specs.Building.{room-short, room-enough}
 use Rattle.sheet.proofs.building.room_verdict.Goals as goal
 
 pub overflow_mul-n : goal.overflow_mul-n
-overflow_mul-n c = omega (arith, c.requires.1.most)
+overflow_mul-n c = omega (arith, c.requires.most)
 
 pub returns-then-room-n : goal.returns-then-room-n
 returns-then-room-n c =

@@ -3,20 +3,22 @@
 use Rattle.std.proofs.Common.{List, ℕ, ap, ◌∙◌}
 use Rattle.refusals.specs.Verdicts.{first_of}
 use Rattle.refusals.specs.Answered.{answer-clear, answer-refused, value-promised}
-use Rattle.refusals.specs.declared.answer.Value.TheVariants as value
 use Rattle.sheet.specs.Orders.{normal_order}
 use Rattle.sheet.specs.Answers.{to_normal, normal_answer, normal_report}
 use Rattle.sheet.proofs.Clear.{shaped-clear}
 use Rattle.sheet.proofs.converting.to_normal.Goals as goal
+use Rattle.std.specs.Prelude.{Ok, Err}
+use Rattle.std.proofs.Common.{rules, ◌≡◌, ◌∙◌}
 
-pub returns-in-Ok : goal.returns-in-Ok
+pub returns : goal.returns
 unfolding normal_answer normal_report
-returns-in-Ok c =
-    let clear-shape = rw c.in-Ok.ensures at (shaped-clear c.in-Ok.judged.bytes.now c.in-Ok.judged.shaped) in
+returns c =
+    let clear-shape = rw c.in_ok-judged.ensures at (shaped-clear c.in_ok-judged.judged.bytes.now c.in_ok-judged.judged.shaped) in
     let whole = value-promised (first_of (normal_order c.args.sheet.now)) _
-    (ap value.Done (c.to_normal.ensures ∙ ap (λ (s : List ℕ). to_normal s c.args.word) c.in-Ok.ensures) ∙ answer-clear value.Refused _ clear-shape) in record { answer = whole.0; report = whole.1 }
+    (ap Ok (c.to_normal.ensures ∙ ap (λ (s : List ℕ). to_normal s c.args.word) c.in_ok-judged.ensures) ∙ answer-clear Err _ clear-shape) in record { answer = whole.0; report = whole.1 }
 
-pub returns-in-Err : goal.returns-in-Err
+pub returns-in_err-judged : goal.returns-in_err-judged
 unfolding normal_answer normal_report
-returns-in-Err c =
-    let whole = value-promised (first_of (normal_order c.args.sheet.now)) _ (answer-refused value.Refused _ c.in-Err.ensures) in record { answer = whole.0; report = whole.1 }
+returns-in_err-judged c =
+    let e : c.from_residual.result ≡ Err c.in_err-judged.field-0.0 = search rules in
+    let whole = value-promised (first_of (normal_order c.args.sheet.now)) _ (e ∙ answer-refused Err _ c.in_err-judged.ensures) in record { answer = whole.0; report = whole.1 }

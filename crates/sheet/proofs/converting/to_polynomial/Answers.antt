@@ -4,20 +4,22 @@ use Rattle.std.proofs.Common.{List, [], ◌∷◌, ℕ, ap, ◌∙◌}
 use Rattle.refusals.specs.Verdicts.{first_of}
 use Rattle.refusals.specs.Orders.{part-refused}
 use Rattle.refusals.specs.Answered.{answer-refused, value-promised}
-use Rattle.refusals.specs.declared.answer.Value.TheVariants as value
 use Rattle.field.specs.Refusals.{element_order}
 use Rattle.sheet.specs.Record.{record_count}
 use Rattle.sheet.specs.Orders.{shape_order, polynomial_order}
 use Rattle.sheet.specs.Answers.{polynomial_answer, polynomial_report}
 use Rattle.sheet.proofs.converting.to_polynomial.Goals as goal
+use Rattle.std.specs.Prelude.{Ok, Err}
+use Rattle.std.proofs.Common.{rules, ◌≡◌, ◌∙◌}
 
-pub returns-in-Ok : goal.returns-in-Ok
+pub returns : goal.returns
 unfolding polynomial_answer polynomial_report
-returns-in-Ok c =
-    let whole = value-promised (first_of (polynomial_order c.args.sheet.now c.args.coordinates)) _ (c.to_polynomial.ensures ∙ ap (λ (s : List ℕ). polynomial_answer s c.args.coordinates) c.in-Ok.ensures) in record { answer = whole.0; report = whole.1 }
+returns c =
+    let whole = value-promised (first_of (polynomial_order c.args.sheet.now c.args.coordinates)) _ (c.to_polynomial.ensures ∙ ap (λ (s : List ℕ). polynomial_answer s c.args.coordinates) c.in_ok-judged.ensures) in record { answer = whole.0; report = whole.1 }
 
-pub returns-in-Err : goal.returns-in-Err
+pub returns-in_err-judged : goal.returns-in_err-judged
 unfolding polynomial_answer polynomial_report
-returns-in-Err c =
+returns-in_err-judged c =
+    let e : c.from_residual.result ≡ Err c.in_err-judged.field-0.0 = search rules in
     let whole = value-promised (first_of (polynomial_order c.args.sheet.now c.args.coordinates)) _
-    (answer-refused value.Refused _ (part-refused (shape_order c.args.sheet.now) (element_order (record_count c.args.sheet.now) (c.args.coordinates ∷ [])) c.in-Err.refusal.number c.in-Err.refusal.place c.in-Err.ensures)) in record { answer = whole.0; report = whole.1 }
+    (e ∙ answer-refused Err _ (part-refused (shape_order c.args.sheet.now) (element_order (record_count c.args.sheet.now) (c.args.coordinates ∷ [])) c.in_err-judged.field-0.0.fault c.in_err-judged.field-0.0.place c.in_err-judged.ensures)) in record { answer = whole.0; report = whole.1 }

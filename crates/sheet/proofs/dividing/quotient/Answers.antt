@@ -4,20 +4,22 @@ use Rattle.std.proofs.Common.{List, [], ◌∷◌, ℕ, ap, ◌∙◌}
 use Rattle.refusals.specs.Verdicts.{first_of}
 use Rattle.refusals.specs.Orders.{part-refused}
 use Rattle.refusals.specs.Answered.{answer-refused, value-promised}
-use Rattle.refusals.specs.declared.answer.Value.TheVariants as value
 use Rattle.field.specs.Refusals.{element_order}
 use Rattle.sheet.specs.Record.{record_count}
 use Rattle.sheet.specs.Orders.{shape_order, value_order, zero_rule, quotient_order}
 use Rattle.sheet.specs.Answers.{quotient_answer, quotient_report}
 use Rattle.sheet.proofs.dividing.quotient.Goals as goal
+use Rattle.std.specs.Prelude.{Ok, Err}
+use Rattle.std.proofs.Common.{rules, ◌≡◌, ◌∙◌}
 
-pub returns-in-Ok : goal.returns-in-Ok
+pub returns : goal.returns
 unfolding quotient_answer quotient_report
-returns-in-Ok c =
-    let whole = value-promised (first_of (quotient_order c.args.sheet.now c.args.dividend c.args.divisor)) _ (c.quotient.ensures ∙ ap (λ (s : List ℕ). quotient_answer s c.args.dividend c.args.divisor) c.in-Ok.ensures) in record { answer = whole.0; report = whole.1 }
+returns c =
+    let whole = value-promised (first_of (quotient_order c.args.sheet.now c.args.dividend c.args.divisor)) _ (c.quotient.ensures ∙ ap (λ (s : List ℕ). quotient_answer s c.args.dividend c.args.divisor) c.in_ok-judged.ensures) in record { answer = whole.0; report = whole.1 }
 
-pub returns-in-Err : goal.returns-in-Err
+pub returns-in_err-judged : goal.returns-in_err-judged
 unfolding quotient_answer quotient_report
-returns-in-Err c =
+returns-in_err-judged c =
+    let e : c.from_residual.result ≡ Err c.in_err-judged.field-0.0 = search rules in
     let whole = value-promised (first_of (quotient_order c.args.sheet.now c.args.dividend c.args.divisor)) _
-    (answer-refused value.Refused _ (part-refused (value_order c.args.sheet.now (c.args.dividend ∷ c.args.divisor ∷ [])) (zero_rule c.args.divisor ∷ []) c.in-Err.refusal.number c.in-Err.refusal.place (part-refused (shape_order c.args.sheet.now) (element_order (record_count c.args.sheet.now) (c.args.dividend ∷ c.args.divisor ∷ [])) c.in-Err.refusal.number c.in-Err.refusal.place c.in-Err.ensures))) in record { answer = whole.0; report = whole.1 }
+    (e ∙ answer-refused Err _ (part-refused (value_order c.args.sheet.now (c.args.dividend ∷ c.args.divisor ∷ [])) (zero_rule c.args.divisor ∷ []) c.in_err-judged.field-0.0.fault c.in_err-judged.field-0.0.place (part-refused (shape_order c.args.sheet.now) (element_order (record_count c.args.sheet.now) (c.args.dividend ∷ c.args.divisor ∷ [])) c.in_err-judged.field-0.0.fault c.in_err-judged.field-0.0.place c.in_err-judged.ensures))) in record { answer = whole.0; report = whole.1 }

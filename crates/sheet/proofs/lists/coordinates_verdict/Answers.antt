@@ -6,14 +6,16 @@ use Rattle.std.proofs.lemmas.Iterator.Adapters.{position_from-zero}
 use Rattle.refusals.specs.Verdicts.{Verdict, clear, refuse, first_of}
 use Rattle.refusals.specs.Answers.{checked_of}
 use Rattle.refusals.specs.Answered.{answer-clear}
-use Rattle.refusals.specs.declared.answer.Checked.TheVariants as checked
 use Rattle.field.specs.Refusals.{too_large_lem}
 use Rattle.sheet.specs.Orders.{value_rules}
 use Rattle.sheet.proofs.lists.coordinates_verdict.Goals as goal
+use Rattle.std.specs.Prelude.{Err}
+use Rattle.refusals.specs.declared.fault.Fault.TheVariants as faults
+use Rattle.refusals.specs.Answers.{passed}
 
 refused_there : Option ℕ → Verdict
 refused_there None = clear
-refused_there (Some i) = refuse 4 i
+refused_there (Some i) = refuse faults.TooLarge i
 
 first-decides : (n i : ℕ) (values : List ℕ) → first_of (value_rules n i values) ≡ refused_there (position_from (too_large_lem n) i values)
 unfolding value_rules first_of refused_there
@@ -36,4 +38,4 @@ returns-in-Some c =
 pub returns-in-None : goal.returns-in-None
 unfolding refused_there
 returns-in-None c =
-    answer-clear checked.Refused checked.Done (decided c.args.n c.args.values.now c.first_too_large.ensures c.in-None.is)
+    answer-clear Err passed (decided c.args.n c.args.values.now c.first_too_large.ensures c.in-None.is)

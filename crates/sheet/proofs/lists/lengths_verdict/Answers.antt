@@ -3,9 +3,10 @@
 use mathlib.Core.Path.{sym, ap, ◌∙◌}
 use Rattle.refusals.specs.Answers.{checked_of}
 use Rattle.refusals.specs.Answered.{answer-clear}
-use Rattle.refusals.specs.declared.answer.Checked.TheVariants as checked
 use Rattle.sheet.specs.Lists.{lengths_differ, list_too_long, list_fits}
 use Rattle.sheet.proofs.lists.lengths_verdict.Goals as goal
+use Rattle.std.specs.Prelude.{Err}
+use Rattle.refusals.specs.Answers.{passed}
 
 pub returns-then-values-room : goal.returns-then-values-room
 returns-then-values-room c =
@@ -17,4 +18,4 @@ returns-then-values-gt-LIST_LIMIT c =
 
 pub returns : goal.returns
 returns c =
-    answer-clear checked.Refused checked.Done (list_fits c.args.values c.args.room c.if-values-room.false c.if-values-gt-LIST_LIMIT.false)
+    answer-clear Err passed (list_fits c.args.values c.args.room c.if-values-room.false c.if-values-gt-LIST_LIMIT.false)

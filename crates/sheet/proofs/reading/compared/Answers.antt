@@ -8,8 +8,9 @@ use Rattle.sheet.specs.Orders.{differ_rules, rebuilt_from}
 use Rattle.sheet.specs.Basis.{sheet_written, summary_table}
 use Rattle.sheet.specs.Reading.{differ_verdict, same_verdict}
 use Rattle.sheet.specs.Rebuilding.{rebuilt_element, rebuilt_summary, rebuilt_differing, rebuilt_room}
-use Rattle.sheet.specs.declared.answer.Issued.TheVariants as issued
 use Rattle.sheet.proofs.reading.compared.Goals as goal
+use Rattle.std.specs.Prelude.{Ok, Err}
+use Rattle.refusals.specs.declared.fault.Fault.TheVariants as faults
 
 pub put_basis-summary-requires : goal.put_basis-summary-requires
 put_basis-summary-requires c =
@@ -27,16 +28,16 @@ returns-in-Some c =
     let e = c.put_basis-summary.ensures.written ∙ sheet_written c.args.f c.args.n c.args.element c.args.basis _ c.requires.1 in
     let same = rebuilt_differing c.args.sheet.now c.args.f c.args.n c.args.element c.requires.0 _ c.put_basis-summary.new.buffer e in
     let place = sym same ∙ c.in-Some.ensures.1 in
-    let v : first_of (differ_rules c.args.sheet.now (rebuilt_from c.args.sheet.now) 0 c.args.n) ≡ refuse 10 c.in-Some.place =
-    differ_verdict c.args.sheet.now (rebuilt_from c.args.sheet.now) 0 c.args.n (omega (arith, place, c.in-Some.ensures.0)) ∙ ap (refuse 10) place in
-    answer-refused issued.Refused _ v
+    let v : first_of (differ_rules c.args.sheet.now (rebuilt_from c.args.sheet.now) 0 c.args.n) ≡ refuse faults.Differs c.in-Some.place =
+    differ_verdict c.args.sheet.now (rebuilt_from c.args.sheet.now) 0 c.args.n (omega (arith, place, c.in-Some.ensures.0)) ∙ ap (refuse faults.Differs) place in
+    answer-refused Err _ v
 
 pub returns-in-None : goal.returns-in-None
 returns-in-None c =
     let e = c.put_basis-summary.ensures.written ∙ sheet_written c.args.f c.args.n c.args.element c.args.basis _ c.requires.1 in
     let same = rebuilt_differing c.args.sheet.now c.args.f c.args.n c.args.element c.requires.0 _ c.put_basis-summary.new.buffer e in
     let place = sym same ∙ c.in-None.ensures in
-    ap issued.Done
+    ap Ok
     (c.put_basis-summary.ensures.summary ∙ summary_table c.args.f c.args.n c.args.element c.args.basis c.requires.1
     ∙ rebuilt_summary c.args.sheet.now c.args.f c.args.n c.args.element c.requires.0)
-    ∙ answer-clear issued.Refused _ (same_verdict c.args.sheet.now (rebuilt_from c.args.sheet.now) 0 c.args.n (omega (arith, place)))
+    ∙ answer-clear Err _ (same_verdict c.args.sheet.now (rebuilt_from c.args.sheet.now) 0 c.args.n (omega (arith, place)))

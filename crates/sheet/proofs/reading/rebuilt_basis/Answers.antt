@@ -7,21 +7,21 @@ use Rattle.sheet.specs.Orders.{differ_rules, rebuilt_from}
 use Rattle.sheet.specs.Answers.{summary_in, issued_of}
 use Rattle.sheet.specs.Basis.{normal-refused, normal_passed, normal-rows}
 use Rattle.sheet.specs.Rebuilding.{rebuilt_element}
-use Rattle.sheet.specs.declared.answer.Issued.TheVariants as issued
 use Rattle.sheet.proofs.reading.rebuilt_basis.Goals as goal
+use Rattle.std.specs.Prelude.{Err}
 
 pub build_basis-built-requires : goal.build_basis-built-requires
 build_basis-built-requires c =
-    let e = rebuilt_element c.args.sheet.now c.args.f c.args.n c.args.element c.requires.1 in
-    (c.requires.0, e.in_range.most, record { is_degree = e.in_range.is_degree; below = e.small })
+    let e = rebuilt_element c.args.sheet.now c.args.f c.args.n c.args.element c.requires in
+    (e.in_range.most, record { is_degree = e.in_range.is_degree; below = e.small })
 
 pub returns-then-not-built : goal.returns-then-not-built
 returns-then-not-built c =
-    answer-refused issued.Refused _ (normal-refused c.args.f c.args.n c.args.element c.build_basis-built.ensures _ c.if-not-built.true)
+    ap Err c.from.ensures ∙ answer-refused Err _ (normal-refused c.args.f c.args.n c.args.element c.build_basis-built.ensures _ c.if-not-built.true)
 
 pub compared-requires : goal.compared-requires
 compared-requires c =
-    (c.requires.1, normal-rows c.args.f c.args.n c.args.element c.build_basis-built.ensures c.if-not-built.false)
+    (c.requires, normal-rows c.args.f c.args.n c.args.element c.build_basis-built.ensures c.if-not-built.false)
 
 pub returns : goal.returns
 returns c =

@@ -7,18 +7,19 @@ use native.Mathlib.Omega.{arith}
 use lib.ListN.{length}
 use Rattle.refusals.specs.Verdicts.{Verdict, clear, refuse, first_of}
 use Rattle.refusals.specs.Answers.{answer_of, checked_of}
-use Rattle.refusals.specs.declared.answer.Checked.{Checked}
-use Rattle.refusals.specs.declared.answer.Checked.TheVariants as checked
 use Rattle.sheet.specs.Record.{record_count, column_in}
 use Rattle.sheet.specs.Orders.{bad_length, record_rules, shape_order}
 use Rattle.sheet.specs.Shape.{good_length, walk-done, shape-short, shape-long}
 use Rattle.sheet.proofs.ShapeLaws.{walk-misplaced, walk-oversized, walk-on}
 use Rattle.sheet.proofs.shape.shape_verdict.Goals as goal
+use Rattle.refusals.specs.Answers.{Checked, passed}
+use Rattle.refusals.specs.declared.fault.Fault.TheVariants as faults
+use Rattle.refusals.specs.declared.fault.Fault.{Fault}
 
-found : (k p : ℕ) {v w : Verdict} {r : Checked} → r ≡ checked_of (refuse k p) → v ≡ refuse k p → v ≡ w → r ≡ checked_of w
+found : (k : Fault) (p : ℕ) {v w : Verdict} {r : Checked} → r ≡ checked_of (refuse k p) → v ≡ refuse k p → v ≡ w → r ≡ checked_of w
 found k p er e q = er ∙ ap checked_of (sym e ∙ q)
 
-none : {v w : Verdict} → v ≡ clear → v ≡ w → checked.Done ≡ checked_of w
+none : {v w : Verdict} → v ≡ clear → v ≡ w → passed ≡ checked_of w
 unfolding answer_of
 none e q = ap checked_of (sym e ∙ q)
 
@@ -27,7 +28,7 @@ first-record sheet e = let z : record_count sheet - 0 ≡ record_count sheet = o
 
 pub returns-then-bad_length : goal.returns-then-bad_length
 returns-then-bad_length c =
-    found 7 0 c.refused.ensures (shape-short c.args.sheet.now (sym c.bad_length.ensures ∙ c.if-bad_length.true)) refl
+    found faults.BadLength 0 c.refused.ensures (shape-short c.args.sheet.now (sym c.bad_length.ensures ∙ c.if-bad_length.true)) refl
 
 pub number_at-tail-requires : goal.number_at-tail-requires
 number_at-tail-requires c =
@@ -46,7 +47,7 @@ is_misplaced-requires c =
 
 pub returns-then-is_misplaced : goal.returns-then-is_misplaced
 returns-then-is_misplaced c =
-    found 8 c.loop-i.i c.refused_at.ensures (walk-misplaced c.args.sheet.now c.loop-i.i (record_count c.args.sheet.now) c.loop-i-test.true (sym c.is_misplaced.ensures ∙ c.if-is_misplaced.true)) c.loop-i.invariant.1
+    found faults.Misplaced c.loop-i.i c.refused_at.ensures (walk-misplaced c.args.sheet.now c.loop-i.i (record_count c.args.sheet.now) c.loop-i-test.true (sym c.is_misplaced.ensures ∙ c.if-is_misplaced.true)) c.loop-i.invariant.1
 
 pub is_oversized-requires : goal.is_oversized-requires
 is_oversized-requires c =
@@ -55,7 +56,7 @@ is_oversized-requires c =
 
 pub returns-then-is_oversized : goal.returns-then-is_oversized
 returns-then-is_oversized c =
-    found 9 c.loop-i.i c.refused_at-then-is_oversized.ensures (walk-oversized c.args.sheet.now c.loop-i.i (record_count c.args.sheet.now) c.loop-i-test.true (sym c.is_misplaced.ensures ∙ c.if-is_misplaced.false) (sym c.is_oversized.ensures ∙ c.if-is_oversized.true)) c.loop-i.invariant.1
+    found faults.Oversized c.loop-i.i c.refused_at-then-is_oversized.ensures (walk-oversized c.args.sheet.now c.loop-i.i (record_count c.args.sheet.now) c.loop-i-test.true (sym c.is_misplaced.ensures ∙ c.if-is_misplaced.false) (sym c.is_oversized.ensures ∙ c.if-is_oversized.true)) c.loop-i.invariant.1
 
 pub loop-i-preserved : goal.loop-i-preserved
 loop-i-preserved c = (
