@@ -36,7 +36,7 @@ pub fn put_basis(buffer: &mut [u8], f: u64, n: u32, element: u64, basis: Basis) 
     ensures summary { result ≡ summary_with f n element (take n basis.table) }
     ensures written { buffer.new ≡ pasted buffer.old 0 (records_to n n (tail_of f n) basis.conjugates basis.inverse basis.table) }
 {
-    put_sheet(buffer, n as usize, f - (1u64 << n), &basis);
+    put_sheet(buffer, n as usize, f - (1u64 << n), basis);
     summary_of(f, n, element, basis.table)
 }
 

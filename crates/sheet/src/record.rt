@@ -26,9 +26,9 @@ fn put_record(buffer: &mut [u8], n: u64, i: usize, tail: u64, row: Row)
 }
 
 // The n records of a basis, at the buffer's front.
-pub fn put_sheet(buffer: &mut [u8], n: usize, tail: u64, basis: &Basis)
+pub fn put_sheet(buffer: &mut [u8], n: usize, tail: u64, basis: Basis)
     requires { (n ≤ limit) × (record_size * n ≤ length buffer.old) }
-    ensures { buffer.new ≡ pasted buffer.old 0 (records_to n n tail basis.now.conjugates basis.now.inverse basis.now.table) }
+    ensures { buffer.new ≡ pasted buffer.old 0 (records_to n n tail basis.conjugates basis.inverse basis.table) }
 {
     for i in 0..n {
         let row = Row {

@@ -20,7 +20,7 @@ done start buffer i n tail C I T h inv = let e : i ≡ n = omega (arith, inv.0) 
 
 pub loop-i-init : goal.loop-i-init
 loop-i-init c =
-    (omega arith, sheet_start c.args.buffer.now c.args.n c.args.tail c.args.basis.now.conjugates c.args.basis.now.inverse c.args.basis.now.table)
+    (omega arith, sheet_start c.args.buffer.now c.args.n c.args.tail c.args.basis.conjugates c.args.basis.inverse c.args.basis.table)
 
 pub offset_bounds-basis-i : goal.offset_bounds-basis-i
 offset_bounds-basis-i c = omega (arith, c.requires.0)
@@ -42,19 +42,19 @@ bounds-basis-i-in-loop-i-2 c = omega (arith, c.requires.0)
 
 pub put_record-requires : goal.put_record-requires
 put_record-requires c =
-    omega (arith, c.requires.1, put-length c.args.buffer.now c.loop-i.buffer c.loop-i.i c.args.n c.args.tail c.args.basis.now.conjugates c.args.basis.now.inverse c.args.basis.now.table c.requires.1 c.loop-i.invariant.0 c.loop-i.invariant.1)
+    omega (arith, c.requires.1, put-length c.args.buffer.now c.loop-i.buffer c.loop-i.i c.args.n c.args.tail c.args.basis.conjugates c.args.basis.inverse c.args.basis.table c.requires.1 c.loop-i.invariant.0 c.loop-i.invariant.1)
 
 pub loop-i-preserved : goal.loop-i-preserved
 loop-i-preserved c = (
   omega arith,
-  sheet_turn c.args.buffer.now c.loop-i.buffer c.put_record.new.buffer c.loop-i.i c.args.n c.args.tail c.args.basis.now.conjugates c.args.basis.now.inverse c.args.basis.now.table
+  sheet_turn c.args.buffer.now c.loop-i.buffer c.put_record.new.buffer c.loop-i.i c.args.n c.args.tail c.args.basis.conjugates c.args.basis.inverse c.args.basis.table
       (omega (arith, c.requires.1, c.loop-i-test.true)) c.loop-i.invariant.1 c.put_record.ensures,
 )
 
 pub shape_of-buffer : goal.shape_of-buffer
 shape_of-buffer c =
-    put-length c.args.buffer.now c.loop-i.buffer c.loop-i.i c.args.n c.args.tail c.args.basis.now.conjugates c.args.basis.now.inverse c.args.basis.now.table c.requires.1 c.loop-i.invariant.0 c.loop-i.invariant.1
+    put-length c.args.buffer.now c.loop-i.buffer c.loop-i.i c.args.n c.args.tail c.args.basis.conjugates c.args.basis.inverse c.args.basis.table c.requires.1 c.loop-i.invariant.0 c.loop-i.invariant.1
 
 pub returns : goal.returns
 returns c =
-    done c.args.buffer.now c.loop-i.buffer c.loop-i.i c.args.n c.args.tail c.args.basis.now.conjugates c.args.basis.now.inverse c.args.basis.now.table c.loop-i-test.false c.loop-i.invariant
+    done c.args.buffer.now c.loop-i.buffer c.loop-i.i c.args.n c.args.tail c.args.basis.conjugates c.args.basis.inverse c.args.basis.table c.loop-i-test.false c.loop-i.invariant
