@@ -19,10 +19,10 @@ fn first_conjugates_sum(g: u64, m: u32, i: u32, a: u64) -> u64
     sum
 }
 
-// A divisor of a part's g, of degree m, other than 1 and g: the greatest common divisor of g and such a sum, the first for x, x^3, x^5, .. that is
-// neither 0 nor 1. There is one below x^m, so the loop does not end without one. Even powers give nothing new and are passed over: modulo g
-// an element and its square have the same sum, so the sum for x^2 is that for x, and the sum for x^6 that for x^3. The sum for 1 is always
-// 0 or 1.
+// A divisor of a part's g, of degree m, other than 1 and g: the greatest common divisor of g and such a sum, the first for x, x^3, x^5, ..
+// that is neither 0 nor 1. There is one below x^m, so the loop does not end without one. Even powers give nothing new and are passed over:
+// modulo g an element and its square have the same sum, so the sum for x^2 is that for x, and the sum for x^6 that for x^3. The sum for 1 is
+// always 0 or 1.
 fn split(part: Part, m: u32) -> u64
     requires { Degree part.value m × (part.degree < m) }
     ensures { (2 ≤ result) × (result < part.value) × Divides result part.value }
@@ -44,11 +44,11 @@ pub fn irreducible_divisor(part: Part) -> u64
 {
     let mut p = part.value;
     while part.degree < degree_of(p) {
-        let half = Part {
+        let rest = Part {
             value: p,
             degree: part.degree,
         };
-        p = split(half, degree_of(p));
+        p = split(rest, degree_of(p));
     }
     p
 }

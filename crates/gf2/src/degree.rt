@@ -9,8 +9,5 @@ pub const LIMIT: usize = 46;
 pub fn degree_of(a: u64) -> u32
     ensures { result ≡ degree a }
 {
-    if a == 0 {
-        return 0;
-    }
-    63 - u64::leading_zeros(a)
+    a.checked_ilog2().unwrap_or(0)
 }

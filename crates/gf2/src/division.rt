@@ -7,7 +7,7 @@ pub fn picked(bit: u64, row: u64) -> u64
     requires { bit < 2 }
     ensures { result ≡ bit * row }
 {
-    std::num::wrapping_sub_u64(0, bit) & row
+    0u64.wrapping_sub(bit) & row
 }
 
 // x times a modulo x^64 + low, for polynomials that are kept at the top of the word: the coefficient to take away is then the

@@ -1,5 +1,5 @@
 -- `divisors::peeling::smallest_of_level` meets its contract: the goals that the check leaves. Its loop is told in `Invariants.antt`. Assumes nothing.
-use Rattle.std.proofs.Common.{◌∙◌, ◌≤◌, arith}
+use Rattle.std.proofs.Common.{◌≤◌, arith}
 use Rattle.divisors.specs.Level.{level_part}
 use Rattle.divisors.specs.Peeling.{peeled_start, peeled_turn, peeled_less, peeled_done, min-smaller}
 use Rattle.divisors.proofs.peeling.smallest_of_level.Goals as goal
@@ -24,7 +24,7 @@ loop-rest-smaller c =
 pub loop-rest-preserved : goal.loop-rest-preserved
 loop-rest-preserved c =
     peeled_turn c.args.part.value c.args.part.level.two c.loop-rest.best c.loop-rest.rest c.irreducible_divisor-p.result c.quotient-rest.result c.loop-rest.invariant
-    c.irreducible_divisor-p.ensures.0 c.irreducible_divisor-p.ensures.1 c.quotient-rest.ensures c.min-best.result (c.min-best.ensures ∙ min-smaller _ _)
+    c.irreducible_divisor-p.ensures.0 c.irreducible_divisor-p.ensures.1 c.quotient-rest.ensures _ (omega (arith, min-smaller c.loop-rest.best c.irreducible_divisor-p.result))
 
 pub returns : goal.returns
 returns c =

@@ -22,8 +22,8 @@ module _ (i g : ℕ) (s : Level i g) (p : ℕ) (inv : (2 ≤ p) × Divides p g) 
 pub loop-part-init : goal.loop-part-init
 loop-part-init c = (c.args.part.level.two, divides_self c.args.part.value)
 
-pub invariant_of-half : goal.invariant_of-half
-invariant_of-half c =
+pub invariant_of-rest : goal.invariant_of-rest
+invariant_of-rest c =
     record { level = level c.args.part.degree c.args.part.value c.args.part.level c.loop-part.p c.loop-part.invariant c.degree_of.result c.degree_of.ensures }
 
 pub split-p-requires : goal.split-p-requires

@@ -1,9 +1,8 @@
 -- `gf2::division::picked` meets its contract: the mask is all ones or none.
 -- Assumes nothing.
+use Rattle.std.proofs.Common.{mod-lt, arith, pow_pos}
 use Rattle.gf2.specs.Words.{mask_picks}
 use Rattle.gf2.proofs.division.picked.Goals as goal
 
 pub returns : goal.returns
-returns c =
-    let m = c.wrapping_sub_u64 in
-    mask_picks m.result c.args.bit c.args.row c.requires m.type_inv c.ranges.row.fits m.ensures.value
+returns c = mask_picks _ c.args.bit c.args.row c.requires (mod-lt _ (pow_pos 64)) c.ranges.row.fits (omega arith)
