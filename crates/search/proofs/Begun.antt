@@ -9,10 +9,8 @@ use Rattle.search.specs.Joined.{joined-nothing, nothing-joined}
 use Rattle.search.proofs.Joined.{joined_assoc, joined-count-le}
 use Rattle.search.specs.Walks.{candidate_none, candidate_count-le}
 use Rattle.search.proofs.Walks.{walked_none, walked_next, walked_cut}
-use Rattle.search.specs.declared.answer.Best.{Best}
-use Rattle.refusals.specs.declared.answer.Refusal.{Refusal}
 use Rattle.search.specs.Begun.{FirstFrom}
-use Rattle.std.specs.Prelude.{Result, Option, Ok, None}
+use Rattle.std.specs.Prelude.{Ok, None}
 
 -- ---- elements that add nothing
 

@@ -6,9 +6,8 @@ use Rattle.gf2.specs.Truth.{bool_cases}
 use Rattle.search.specs.Search.{Search, with_count, better, joined, Answered, nothing, found, count_of}
 use Rattle.search.specs.Preceding.{precedes-means, precedes_trans, precedes_neither}
 use Rattle.search.specs.declared.answer.Best.{Best}
-use Rattle.refusals.specs.declared.answer.Refusal.{Refusal}
 use Rattle.search.specs.Joined.{before, better-left}
-use Rattle.std.specs.Prelude.{Result, Option, Ok, Err, Some, None}
+use Rattle.std.specs.Prelude.{Ok, Err, Some, None}
 
 -- ---- found records
 

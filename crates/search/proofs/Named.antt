@@ -19,10 +19,9 @@ use Rattle.search.specs.Preceding.{not_precedes, precedes_trans, precedes_self}
 use Rattle.search.specs.Joined.{before, better-left, joined-nothing}
 use Rattle.search.proofs.Joined.{better-right}
 use Rattle.search.specs.declared.answer.Best.{Best}
-use Rattle.refusals.specs.declared.answer.Refusal.{Refusal}
 use Rattle.search.specs.Walks.{candidate_is, candidate_none}
 use Rattle.search.proofs.Walks.{ranged-count, ranged_answered}
-use Rattle.std.specs.Prelude.{Result, Option, Ok, Some, None}
+use Rattle.std.specs.Prelude.{Ok, Some, None}
 
 record Names (f n first stop : ℕ) (x : Best) : Type 0 where
   pub from : first ≤ x.element

@@ -10,12 +10,10 @@ use Rattle.std.specs.Prelude.{List, [], ◌∷◌, ◌++◌, ℕ, ltb}
 use Rattle.gf2.specs.Poly.{degree}
 use Rattle.refusals.specs.Verdicts.{fault_number, Rule, Verdict, clear, refuse, first_of}
 use Rattle.refusals.specs.Answers.{answer_of}
-use Rattle.refusals.specs.declared.answer.Refusal.{Refusal}
 use Rattle.field.specs.Refusals.{operand_order, field_order}
 use Rattle.normal.specs.Grades.{grade_number}
 use Rattle.search.specs.Search.{Search, ranged}
-use Rattle.search.specs.declared.answer.Best.{Best}
-use Rattle.std.specs.Prelude.{Result, Option, Ok, Err, Some, None}
+use Rattle.std.specs.Prelude.{Ok, Err, Some, None}
 use Rattle.refusals.specs.declared.fault.Fault.TheVariants as faults
 
 -- "first of the range is greater than last"

@@ -22,9 +22,7 @@ use Rattle.elements.specs.Fields.{FieldOf}
 use Rattle.elements.specs.Traces.{no_trace_not_normal}
 use Rattle.search.specs.Search.{Search, leader, normal_leader, joined, walked}
 use Rattle.search.specs.Walks.{no_leader, not_normal}
-use Rattle.search.specs.declared.answer.Best.{Best}
-use Rattle.refusals.specs.declared.answer.Refusal.{Refusal}
-use Rattle.std.specs.Prelude.{Result, Ok}
+use Rattle.std.specs.Prelude.{Ok}
 
 pub record RangeOf (f n first last : ℕ) : Type 0 where
   pub of_field : FieldOf f n

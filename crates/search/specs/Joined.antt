@@ -10,8 +10,7 @@ use Rattle.gf2.specs.Truth.{not_true_false}
 use Rattle.search.specs.Search.{Search, precedes, with_count, better, joined, Answered, nothing, found}
 use Rattle.search.specs.Preceding.{precedes-means}
 use Rattle.search.specs.declared.answer.Best.{Best}
-use Rattle.refusals.specs.declared.answer.Refusal.{Refusal}
-use Rattle.std.specs.Prelude.{Result, Option, Ok, Err, Some, None}
+use Rattle.std.specs.Prelude.{Ok, Err, Some, None}
 
 -- ---- found records
 

@@ -28,7 +28,7 @@ use Rattle.search.specs.Joined.{before, better-left, joined-nothing}
 use Rattle.search.specs.Walks.{candidate_is, candidate_none, normal-leader, not_normal}
 use Rattle.search.specs.declared.answer.Best.{Best}
 use Rattle.refusals.specs.declared.answer.Refusal.{Refusal}
-use Rattle.std.specs.Prelude.{Result, Ok, Err}
+use Rattle.std.specs.Prelude.{Ok, Err}
 
 abbrev pub unbounded : ℕ
 unbounded = 4294967295

@@ -13,9 +13,6 @@ use Rattle.field.specs.Orders.{in_range}
 use Rattle.field.specs.Checked.{field_accepts, accepted-irreducible, accepted-returns}
 use Rattle.elements.specs.Fields.{FieldOf}
 use Rattle.search.specs.Answers.{search_of, case_report, report_of}
-use Rattle.search.specs.declared.answer.Best.{Best}
-use Rattle.refusals.specs.declared.answer.Refusal.{Refusal}
-use Rattle.std.specs.Prelude.{Result, Option}
 use Rattle.search.specs.Search.{Search}
 
 -- ---- the answers

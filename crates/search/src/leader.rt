@@ -10,11 +10,13 @@ pub fn is_leader(squares: &Squares, a: u64) -> bool
     ensures { result ≡ leader squares.now.f squares.now.n a }
 {
     let mut y = a;
-    for i in 1..squares.n {
-        y = squares.square(y);
-        if y < a {
-            return false;
+    'conjugates: {
+        for i in 1..squares.n {
+            y = squares.square(y);
+            if y < a {
+                break 'conjugates false;
+            }
         }
+        true
     }
-    true
 }

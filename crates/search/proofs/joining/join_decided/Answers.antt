@@ -6,7 +6,7 @@ use mir.Val.{Fits}
 use mir.Syntax.{w32}
 use Rattle.search.specs.Joining.{join_not_normal, join_normal}
 use Rattle.search.proofs.joining.join_decided.Goals as goal
-use Rattle.std.specs.Prelude.{Ok, Some, None}
+use Rattle.std.specs.Prelude.{Ok, Some}
 
 pub returns-in-None : goal.returns-in-None
 returns-in-None c =

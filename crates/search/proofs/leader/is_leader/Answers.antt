@@ -48,7 +48,7 @@ returns-then-y-a c =
     let s = c.args.squares.now in
     sym (not_leader s.f s.n c.args.a c.loop-i.i c.loop-i-test.true (rw (turned (goal.at.returns-then-y-a c).After-square-y) at c.if-y-a.true))
 
-pub returns : goal.returns
-returns c =
+pub returns-after-loop-i : goal.returns-after-loop-i
+returns-after-loop-i c =
     let s = c.args.squares.now in
     sym ((leader-means s.f s.n c.args.a).1 (λ i h. c.loop-i.invariant.2 i (omega (arith, c.loop-i-test.false))))

@@ -5,7 +5,6 @@ use Prim.Native.Nat.{ℕ}
 use native.Mathlib.Omega.{arith}
 use Rattle.refusals.specs.Verdicts.{first_of}
 use Rattle.refusals.specs.Answered.{judged_clear, judged_refused, judged_done}
-use Rattle.refusals.specs.declared.answer.Refusal.{Refusal}
 use Rattle.search.specs.Search.{ranged, count_of}
 use Rattle.search.specs.Answers.{search_order, search_answer, search_report}
 use Rattle.search.specs.Joined.{nothing-joined}

@@ -9,12 +9,9 @@ use Rattle.search.specs.Search.{Search, joined, candidate_of}
 use Rattle.search.specs.Joined.{joined-nothing}
 use Rattle.search.specs.Walks.{candidate_none}
 use Rattle.search.specs.Begun.{trace_leader, next-done, trace-leader-leads, not_trace-leader}
-use Rattle.search.specs.declared.answer.Best.{Best}
-use Rattle.refusals.specs.declared.answer.Refusal.{Refusal}
 use Rattle.search.proofs.Begun.{next_start, next_turn, next-count}
 use Rattle.search.proofs.walking.walk_on.Goals.{then-is_trace_leader, else-is_trace_leader}
 use Rattle.search.proofs.walking.walk_on.Goals as goal
-use Rattle.std.specs.Prelude.{Result, Option}
 use Rattle.std.specs.Prelude.{Ok}
 
 pub loop-y-init : goal.loop-y-init
