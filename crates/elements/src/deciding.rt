@@ -5,7 +5,7 @@ ghost use Rattle.elements.specs.Fields.{ElementOf};
 ghost use Rattle.elements.specs.Held.{f_of, n_of};
 ghost use Rattle.elements.specs.Decided.{Decides};
 
-use super::units::{Witness, unit_of};
+use super::units::{Turns, Witness};
 use super::upper::Tables;
 use gf2::Spread;
 use normal::{build_basis, complexity_of};
@@ -30,7 +30,8 @@ impl<'a> Tables<'a> {
         ensures { Decides (f_of self.now.reference) (n_of self.now.reference) y bound result }
     {
         let squares = &self.reference.modulus.squares;
-        match unit_of(squares.n, self.reference.coordinates(y)) {
+        let turns = Turns { n: squares.n };
+        match turns.unit_of(self.reference.coordinates(y)) {
             Witness::Unknown => decide_by_basis(squares.f, squares.n, y),
             Witness::Vanishes(_) => None,
             Witness::Inverse(r) => Some(self.ones_within(y, r, bound)),

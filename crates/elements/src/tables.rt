@@ -8,7 +8,7 @@ ghost use Rattle.elements.specs.Ones.{Within};
 ghost use Rattle.elements.specs.Units.{Witnesses};
 ghost use Rattle.elements.specs.declared.units.Witness.TheVariants.{Inverse};
 
-use super::units::turn_modulus;
+use super::units::Turns;
 use super::upper::Tables;
 use super::windows::Multiples;
 use rows::sum_by_bytes;
@@ -45,7 +45,8 @@ impl<'a> Tables<'a> {
         let squares = &self.reference.modulus.squares;
         let n = squares.n;
         let ys = Multiples::new(squares.f, n, y);
-        let rs = Multiples::new(turn_modulus(n), n, r);
+        let turns = Turns { n };
+        let rs = Multiples::new(turns.modulus(), n, r);
         let mut count: u32 = 1;
         let mut c = y;
         for i in 0..n / 2 {

@@ -25,12 +25,11 @@ struct Pair {
     rest_by: u64,
 }
 
-// t^n + 1.
-pub fn turn_modulus(n: u32) -> u64
-    requires { n < 64 }
-    ensures { result ≡ 2 ^ n + 1 }
-{
-    (1u64 << n) + 1
+// Polynomials in t modulo t^n + 1, where n is below the bits of a word.
+#[derive(Clone, Copy)]
+pub struct Turns {
+    pub n: u32,
+    pub ghost fits: { n < 64 },
 }
 
 // One or the other. LLVM makes no branch of it.
@@ -38,70 +37,73 @@ fn chosen(test: bool, yes: u64, no: u64) -> u64 {
     if test { yes } else { no }
 }
 
-// x over t^k.
-fn turned_back(n: u32, k: u32, x: u64) -> u64
-    requires { n < 64 }
-{
-    let down = k % 64;
-    let mask = std::num::wrapping_sub_u64(1u64 << n, 1);
-    (x >> down) | ((x << ((n + 64 - down) % 64)) & mask)
-}
-
-// The factors t are taken out of the rest, and the smaller one out of the larger.
-fn subtracted(n: u32, p: Pair) -> Pair
-    requires { n < 64 }
-{
-    let k = u64::trailing_zeros(p.rest);
-    let odd = p.rest >> k % 64;
-    let by = turned_back(n, k, p.rest_by);
-    let less = odd < p.first;
-    Pair {
-        first: chosen(less, odd, p.first),
-        first_by: chosen(less, by, p.first_by),
-        rest: odd ^ p.first,
-        rest_by: by ^ p.first_by,
+impl Turns {
+    // t^n + 1.
+    pub fn modulus(self) -> u64
+        ensures { result ≡ 2 ^ self.n + 1 }
+    {
+        (1u64 << self.n) + 1
     }
-}
 
-// The greatest common divisor of t^n + 1 and v, up to factors t, with what v is multiplied by to give it; and beside it 0, with what v is
-// multiplied by to give 0. Each turn takes at least one from the sum of the two degrees.
-fn common_with(n: u32, v: u64) -> Pair
-    requires { n < 64 }
-{
-    let mut p = Pair {
-        first: turn_modulus(n),
-        first_by: 0,
-        rest: v,
-        rest_by: 1,
-    };
-    for _ in 0..128 {
-        if p.rest == 0 {
-            return p;
+    // x over t^k.
+    fn turned_back(self, k: u32, x: u64) -> u64 {
+        let down = k % 64;
+        let mask = std::num::wrapping_sub_u64(1u64 << self.n, 1);
+        (x >> down) | ((x << ((self.n + 64 - down) % 64)) & mask)
+    }
+
+    // The factors t are taken out of the rest, and the smaller one out of the larger.
+    fn subtracted(self, p: Pair) -> Pair {
+        let k = u64::trailing_zeros(p.rest);
+        let odd = p.rest >> k % 64;
+        let by = self.turned_back(k, p.rest_by);
+        let less = odd < p.first;
+        Pair {
+            first: chosen(less, odd, p.first),
+            first_by: chosen(less, by, p.first_by),
+            rest: odd ^ p.first,
+            rest_by: by ^ p.first_by,
         }
-        p = subtracted(n, p);
     }
-    p
-}
 
-// Whether v has an inverse modulo t^n + 1.
-pub fn unit_of(n: u32, v: u64) -> Witness
-    requires { (2 ≤ n) × (n < 64) × (v < 2 ^ n) }
-    ensures { Witnesses n v result }
-{
-    let p = common_with(n, v);
-    let w = chosen(p.first == 1, p.first_by, p.rest_by);
-    if too_large(n, w) {
-        return Witness::Unknown;
+    // The greatest common divisor of t^n + 1 and v, up to factors t, with what v is multiplied by to give it; and beside it 0, with what v is
+    // multiplied by to give 0. Each turn takes at least one from the sum of the two degrees.
+    fn common_with(self, v: u64) -> Pair {
+        let mut p = Pair {
+            first: self.modulus(),
+            first_by: 0,
+            rest: v,
+            rest_by: 1,
+        };
+        for _ in 0..128 {
+            if p.rest == 0 {
+                return p;
+            }
+            p = self.subtracted(p);
+        }
+        p
     }
-    let product = multiply(turn_modulus(n), n, w, v);
-    if product == 1 {
-        return Witness::Inverse(w);
+
+    // Whether v has an inverse modulo t^n + 1.
+    pub fn unit_of(self, v: u64) -> Witness
+        requires { (2 ≤ self.n) × (v < 2 ^ self.n) }
+        ensures { Witnesses self.n v result }
+    {
+        let p = self.common_with(v);
+        let w = chosen(p.first == 1, p.first_by, p.rest_by);
+        if too_large(self.n, w) {
+            return Witness::Unknown;
+        }
+        let product = multiply(self.modulus(), self.n, w, v);
+        if product == 1 {
+            return Witness::Inverse(w);
+        }
+        if product != 0 {
+            return Witness::Unknown;
+        }
+        if w == 0 {
+            return Witness::Unknown;
+        }
+        Witness::Vanishes(w)
     }
-    if product != 0 {
-        return Witness::Unknown;
-    }
-    if w == 0 {
-        return Witness::Unknown;
-    }
-    Witness::Vanishes(w)
 }

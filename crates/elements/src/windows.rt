@@ -79,7 +79,8 @@ impl Multiples {
     }
 
     // A polynomial of degree below 2n that is the product of a and b modulo f. No turn waits for the one before it, as it would if each reduced.
-    // The count of turns is a constant, so that they are unrolled.
+    // The count of turns is a constant, so that they are unrolled, and two callers are no reason for LLVM to leave it a call.
+    #[inline(always)]
     pub fn wide_product(&self, b: u64) -> Wide
         requires { self.now.n ≤ roomy }
         ensures { b < 2 ^ self.now.n → Unreduced self.now.f self.now.n self.now.a b result.low result.high }

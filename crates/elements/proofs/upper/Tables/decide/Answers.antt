@@ -1,6 +1,6 @@
 -- `elements::upper::Tables::decide` meets its contract, by the cases of the witness for y's coordinates in the reference's basis.
 -- Assumes nothing.
-use Rattle.std.proofs.Common.{refl, ◌≡◌, ◌+◌, ◌^◌, ◌<◌, arith}
+use Rattle.std.proofs.Common.{refl, ◌≡◌, ◌+◌, ◌^◌, ◌<◌}
 use Rattle.gf2.specs.Poly.{mul_mod}
 use Rattle.elements.specs.Reference.{through}
 use Rattle.elements.specs.Held.{f_of, n_of, of_field, reference_of}
@@ -11,7 +11,7 @@ use Rattle.elements.proofs.upper.Tables.decide.Goals as goal
 pub unit_of-requires : goal.unit_of-requires
 unit_of-requires c =
     let r = c.args.self.now.reference in
-    ((of_field r).two, omega (arith, (of_field r).most), rw c.coordinates.ensures (through-lt (f_of r) (n_of r) r.sums (reference_of r) c.args.y c.requires))
+    ((of_field r).two, rw c.coordinates.ensures (through-lt (f_of r) (n_of r) r.sums (reference_of r) c.args.y c.requires))
 
 pub decide_by_basis-requires : goal.decide_by_basis-requires
 decide_by_basis-requires c = record { of_field = of_field c.args.self.now.reference; below = c.requires }

@@ -16,13 +16,13 @@ new-ys-requires c =
     let s = of_field c.args.self.now.reference in
     (omega (arith, s.most), s.is_degree, c.requires.0)
 
-pub turn_modulus-requires : goal.turn_modulus-requires
-turn_modulus-requires c = omega (arith, (of_field c.args.self.now.reference).most)
+pub invariant_of-turns : goal.invariant_of-turns
+invariant_of-turns c = omega (arith, (of_field c.args.self.now.reference).most)
 
 pub new-rs-requires : goal.new-rs-requires
 new-rs-requires c =
     let s = of_field c.args.self.now.reference in
-    (omega (arith, s.most), rw c.turn_modulus.ensures (turn_degree _ (omega (arith, s.two))), c.requires.1.0)
+    (omega (arith, s.most), rw c.modulus.ensures (turn_degree _ (omega (arith, s.two))), c.requires.1.0)
 
 pub loop-i-init : goal.loop-i-init
 loop-i-init c =
@@ -51,7 +51,7 @@ row_through-row-requires c =
     let r = c.args.self.now.reference in
     record {
       ys_are = (c.new-ys.ensures.0, c.new-ys.ensures.1);
-      rs_are = (c.new-rs.ensures.0 ∙ c.turn_modulus.ensures, c.new-rs.ensures.1);
+      rs_are = (c.new-rs.ensures.0 ∙ c.modulus.ensures, c.new-rs.ensures.1);
       element = rw c.square-c.ensures (mul_mod-lt (f_of r) (n_of r) (of_field r).is_degree c.loop-i.c c.loop-i.c);
     }
 
