@@ -18,7 +18,7 @@ use Rattle.rows.specs.Sums.{comb-same}
 use Rattle.rows.specs.Inverses.{inverted-inverse, inverted-dependency, inverted-length}
 use Rattle.rows.proofs.Inverses.{inverse_unique_at, inverted-independent}
 use Rattle.normal.specs.Normal.{conjugates, normal, dependency, listed, inverse_rows, table_rows, padded, coordinates}
-use Rattle.normal.specs.Basis.{no_basis, built_of}
+use Rattle.normal.specs.Basis.{built_of}
 use Rattle.normal.specs.Selected.{conjugates-at, conjugates-length}
 use Rattle.normal.specs.Coordinates.{listed_ext, dependency_is, inverse_rows-length}
 use Rattle.normal.proofs.Coordinates.{normal-means, inverse_rows-inverse, convert-coordinates}
@@ -49,7 +49,7 @@ module _ (f n a : ℕ) (deg : Degree f n) (small : n ≤ limit) (ha : a < 2 ^ n)
           smallest = λ w p l z. d.smallest w p l (padded-comb C w ∙ z);
         }))
 
-    pub built_dependent : record { normal = false; basis = no_basis; dependency = v } ≡ built_of f n a
+    pub built_dependent : Err v ≡ built_of f n a
     unfolding built_of
     built_dependent =
         let t : normal f n a ≡ false = sym inverted-normal ∙ ap is_ok e in
@@ -86,7 +86,7 @@ module _ (f n a : ℕ) (deg : Degree f n) (small : n ≤ limit) (ha : a < 2 ^ n)
 
     pub built_normal : (c t : List ℕ) → c ≡ padded (conjugates f n a)
         → t ≡ padded (listed n (λ i. comb inv (mul_mod f n (get_or (padded (conjugates f n a)) 0 0) (get_or (padded (conjugates f n a)) i 0))))
-        → record { normal = true; basis = record { conjugates = c; inverse = inv; table = t }; dependency = 0 } ≡ built_of f n a
+        → Ok (record { conjugates = c; inverse = inv; table = t }) ≡ built_of f n a
     unfolding built_of
     built_normal c t ec et =
         let n-is : normal f n a ≡ true = sym inverted-normal ∙ ap is_ok e in

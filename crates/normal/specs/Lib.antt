@@ -4,6 +4,7 @@ pub mod TableProduct
 pub mod Powers
 pub mod Grades
 pub mod Basis
+pub mod Built
 pub mod Rotation
 pub mod Selected
 pub mod Coordinates

@@ -17,15 +17,6 @@ pub struct Basis {
     pub table: [u64; LIMIT],
 }
 
-// What building answers: the basis of a normal element, and 0; else zeros, and the smallest number other than 0 whose set bits
-// select conjugates that sum to zero.
-#[derive(Clone, Copy)]
-pub struct Built {
-    pub normal: bool,
-    pub basis: Basis,
-    pub dependency: u64,
-}
-
 // Row i: the coordinates, through the inverse rows, of c_0 times c_i.
 fn table_of(f: u64, n: u32, conjugates: [u64; LIMIT], inverse: [u64; LIMIT]) -> [u64; LIMIT]
     requires { (n ≤ limit) × Degree f n × Matrix conjugates n }
@@ -39,35 +30,17 @@ fn table_of(f: u64, n: u32, conjugates: [u64; LIMIT], inverse: [u64; LIMIT]) -> 
     rows
 }
 
-// The basis of a, or its dependency.
-pub fn build_basis(spread: &Spread, f: u64, n: u32, a: u64) -> Built
+// The basis of a. Where a is not normal, its dependency: the smallest number other than 0 whose set bits select conjugates that sum to zero.
+pub fn build_basis(spread: &Spread, f: u64, n: u32, a: u64) -> Result<Basis, u64>
     requires { (n ≤ limit) × Element f n a }
     ensures { result ≡ built_of f n a }
 {
     let conjugates = conjugates_of(spread, f, n, a);
-    let inverse = match invert(conjugates, n as usize) {
-        Ok(inverse) => inverse,
-        Err(dependency) => {
-            let zeros: [u64; LIMIT] = [0; LIMIT];
-            return Built {
-                normal: false,
-                basis: Basis {
-                    conjugates: zeros,
-                    inverse: zeros,
-                    table: zeros,
-                },
-                dependency,
-            };
-        }
-    };
+    let inverse = invert(conjugates, n as usize)?;
     let table = table_of(f, n, conjugates, inverse);
-    Built {
-        normal: true,
-        basis: Basis {
-            conjugates,
-            inverse,
-            table,
-        },
-        dependency: 0,
-    }
+    Ok(Basis {
+        conjugates,
+        inverse,
+        table,
+    })
 }

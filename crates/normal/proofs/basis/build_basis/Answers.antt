@@ -1,6 +1,7 @@
 -- `normal::basis::build_basis` meets its contract: what inversion answers is what the definitions say.
 -- Assumes nothing.
-use mathlib.Core.Path.{◌≡◌, refl}
+use mathlib.Core.Path.{◌≡◌, refl, ◌∙◌}
+use Rattle.std.proofs.Common.{rules, Err}
 use mathlib.Core.List.{List}
 use Prim.Native.Nat.{ℕ}
 use Rattle.gf2.specs.Poly.{Element}
@@ -18,9 +19,11 @@ pub invert-requires : goal.invert-requires
 invert-requires c =
     (c.requires.0, matrix c.args.f c.args.n c.args.a c.conjugates_of-conjugates.result c.requires.1 c.conjugates_of-conjugates.ensures)
 
-pub returns-in-Err : goal.returns-in-Err
-returns-in-Err c =
-    built_dependent c.args.f c.args.n c.args.a c.requires.1.is_degree c.requires.0 c.requires.1.below _ (rw c.conjugates_of-conjugates.ensures at c.in-Err.ensures) c.in-Err.dependency refl
+pub returns-in_err-inverse : goal.returns-in_err-inverse
+returns-in_err-inverse c =
+    let passed : c.from_residual.result ≡ Err c.in_err-inverse.field-0.0 = search rules in
+    passed
+    ∙ built_dependent c.args.f c.args.n c.args.a c.requires.1.is_degree c.requires.0 c.requires.1.below _ (rw c.conjugates_of-conjugates.ensures at c.in_err-inverse.ensures) _ refl
 
 pub table_of-table-requires : goal.table_of-table-requires
 table_of-table-requires c =
@@ -28,5 +31,5 @@ table_of-table-requires c =
 
 pub returns : goal.returns
 returns c =
-    built_normal c.args.f c.args.n c.args.a c.requires.1.is_degree c.requires.0 c.requires.1.below _ (rw c.conjugates_of-conjugates.ensures at c.in-Ok.ensures) c.in-Ok.inverse refl
+    built_normal c.args.f c.args.n c.args.a c.requires.1.is_degree c.requires.0 c.requires.1.below _ (rw c.conjugates_of-conjugates.ensures at c.in_ok-inverse.ensures) _ refl
     c.conjugates_of-conjugates.result c.table_of-table.result c.conjugates_of-conjugates.ensures (rw c.conjugates_of-conjugates.ensures at c.table_of-table.ensures)
