@@ -7,7 +7,7 @@
 --   right-row                                  the rows of record i of the sheet that f and a give, by the basis that is built
 --
 -- Assumes nothing.
-use Rattle.std.specs.Prelude.{◌≡◌, ◌⊎◌, false, List, ℕ, ◌≤◌, ◌<◌, get_or}
+use Rattle.std.specs.Prelude.{◌≡◌, ◌⊎◌, Result, Ok, Err, is_ok, true, false, List, ℕ, ◌≤◌, ◌<◌, get_or}
 use Rattle.std.proofs.Math.Path.{refl}
 use Rattle.std.proofs.Common.{sym, ◌∙◌, ⊎_elim, arith}
 use borrow.Author.Tests.{eq-eqb, ne_eqb}
@@ -20,7 +20,8 @@ use Rattle.divisors.specs.Smallest.{smallest_divisor}
 use Rattle.normal.specs.Normal.{conjugates, normal, dependency, inverse_rows, table_rows}
 use Rattle.normal.specs.Basis.{built_of}
 use Rattle.normal.specs.Filling.{padded-at}
-use Rattle.normal.specs.declared.basis.Built.{Built}
+use Rattle.normal.specs.Built.{built-ok, built-err}
+use Rattle.normal.specs.declared.basis.Basis.{Basis}
 use Rattle.sheet.specs.Record.{record_count, conjugate_in, polynomial_in, sheet_bytes}
 use Rattle.sheet.specs.Sheets.{Based}
 use Rattle.sheet.proofs.Issuing.{based-degree, based-two, based-most, based-free}
@@ -31,6 +32,9 @@ use Rattle.causes.specs.declared.answer.Field.TheVariants as field
 use Rattle.causes.specs.declared.answer.Difference.{Difference}
 use Rattle.causes.specs.declared.answer.Cause.{Cause}
 use Rattle.causes.specs.declared.answer.Cause.TheVariants as cause
+
+pub apart : true ≡ false → ⊥
+apart e = let z : ◌≡◌ {A = ℕ} 0 1 = cc in omega arith
 
 -- ---- a record that differs
 
@@ -48,18 +52,21 @@ module _ (i : ℕ) (stored right : Row) where
     unfolding first_field_lem
     difference_table second = rw (eq-eqb stored.conjugate right.conjugate first, eq-eqb stored.inverse right.inverse second)
 
--- the rows of the basis that is built are those of the sheet
-pub right-row : (f n a i : ℕ) → Based f n a → i < n → {b : Built} → b ≡ built_of f n a
-    → record { conjugate = get_or b.basis.conjugates i 0; inverse = get_or b.basis.inverse i 0; table = get_or b.basis.table i 0 } ≡ row_of (sheet_bytes f n a) i
+-- a normal element has a basis
+pub built_ok : (f n a : ℕ) → normal f n a ≡ true → {built : Result Basis ℕ} → built ≡ built_of f n a → is_ok built ≡ true
 unfolding built_of
+built_ok f n a t e = rw (e, t)
+
+-- the rows of the basis that is built are those of the sheet
+pub right-row : (f n a i : ℕ) → Based f n a → i < n → {b : Basis} → Ok b ≡ built_of f n a
+    → record { conjugate = get_or b.conjugates i 0; inverse = get_or b.inverse i 0; table = get_or b.table i 0 } ≡ row_of (sheet_bytes f n a) i
 right-row f n a i d h {b} e =
     let deg = based-degree f n a d in
     let two = based-two f n a d in
     let most = based-most f n a d in
     let free = based-free f n a d in
     rw (
-      e,
-      d.is_normal,
+      (built-ok f n a e).1,
       padded-at (conjugates f n a),
       padded-at (inverse_rows f n a),
       padded-at (table_rows f n a),
@@ -101,9 +108,8 @@ module _ (f n : ℕ) (r : Refusal) where
         (polynomial-alone (off 2 (λ e. omega arith) (λ e. omega arith)) (off 3 (λ e. omega arith) (λ e. omega arith)))
 
 -- what a dependent element's basis hands out
-pub built_dependency : (f n a : ℕ) → normal f n a ≡ false → {b : Built} → b ≡ built_of f n a → b.dependency ≡ dependency f n a
-unfolding built_of
-built_dependency f n a t {b} e = rw (e, t)
+pub built_dependency : (f n a : ℕ) → normal f n a ≡ false → {set : ℕ} → Err set ≡ built_of f n a → set ≡ dependency f n a
+built_dependency f n a t e = (built-err f n a e).1
 
 module _ (sheet : List ℕ) (r : Refusal) where
   pub sheet-differs : r.fault ≡ faults.Differs → {d : Difference} → d ≡ difference_in sheet r.place → cause.Differs d ≡ sheet_cause sheet r.fault r.place

@@ -16,11 +16,10 @@ fn decide_by_basis(f: u64, n: u32, y: u64) -> Option<u32>
     ensures { (bound : ℕ) → Decides f n y bound result }
 {
     let spread = Spread::new();
-    let built = build_basis(&spread, f, n, y);
-    if !built.normal {
-        return None;
+    match build_basis(&spread, f, n, y) {
+        Ok(basis) => Some(complexity_of(basis.table, n as usize)),
+        Err(_) => None,
     }
-    Some(complexity_of(built.basis.table, n as usize))
 }
 
 impl<'a> Tables<'a> {

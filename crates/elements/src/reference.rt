@@ -27,10 +27,9 @@ impl<'a> Reference<'a> {
         requires { (b < 2 ^ modulus.squares.now.n) × (normal modulus.squares.now.f modulus.squares.now.n b ≡ true) }
         ensures { result.modulus ≡ modulus.entry }
     {
-        let built = build_basis(spread, modulus.squares.f, modulus.squares.n, b);
-        let inverse = built.basis.inverse;
+        let basis = build_basis(spread, modulus.squares.f, modulus.squares.n, b).unwrap();
         let mut sums: [u64; BYTE_SUMS] = [0; BYTE_SUMS];
-        byte_sums(inverse, &mut sums);
+        byte_sums(basis.inverse, &mut sums);
         Reference {
             modulus,
             element: b,

@@ -1,6 +1,6 @@
 -- The laws of `specs/Calls.antt` that a wrong definition breaks, and what rests on them. The head there tells of both files.
 -- Assumes nothing.
-use Rattle.std.specs.Prelude.{◌≡◌, false, not, ℕ, ◌+◌, ◌≤◌, ◌<◌}
+use Rattle.std.specs.Prelude.{◌≡◌, false, Ok, ℕ, ◌+◌, ◌≤◌, ◌<◌}
 use Rattle.std.proofs.Math.Path.{sym, ap}
 use Rattle.std.proofs.Common.{◌∙◌, zero-add, le-ltb}
 use mathlib.Core.List.{List, [], ◌∷◌, ◌++◌}
@@ -17,7 +17,6 @@ use Rattle.field.specs.Refusals.{field_order}
 use Rattle.normal.specs.Basis.{built_of}
 use Rattle.normal.specs.Normal.{table_rows, padded}
 use Rattle.normal.specs.declared.basis.Basis.{Basis}
-use Rattle.normal.specs.declared.basis.Built.{Built}
 use Rattle.sheet.specs.Record.{record_count, conjugate_in, polynomial_in, table_rows_in}
 use Rattle.sheet.specs.Orders.{normal_rule}
 use Rattle.sheet.specs.Bytes.{pasted}
@@ -53,14 +52,14 @@ built_based f n a o accepts normal =
     clear-based f n a inside size o.small (part-clear (field_order f) (normal_rule f n a ∷ []) accepts ∙ normal)
 
 -- the verdict on a text, compared with the matrices of the basis that was built
-pub built_verdict : (f n a : ℕ) → Operand f n a → first_of (field_order f) ≡ clear → {r : Built} → r ≡ built_of f n a → not r.normal ≡ false
-    → (rows text : List ℕ) → Twice n r.basis.table rows → {c : Checked} → c ≡ checked_of (first_of (match_rule text (text_bytes n (turned n rows)) ∷ []))
+pub built_verdict : (f n a : ℕ) → Operand f n a → first_of (field_order f) ≡ clear → {basis : Basis} → Ok basis ≡ built_of f n a
+    → (rows text : List ℕ) → Twice n basis.table rows → {c : Checked} → c ≡ checked_of (first_of (match_rule text (text_bytes n (turned n rows)) ∷ []))
     → c ≡ checked_of (first_of (match_order f n a text))
-built_verdict f n a o accepts {r} er flag rows text twice {c} ec =
-    let b : Based f n a = built_based f n a o accepts (normal_passed f n a er flag [] ∙ first-none) in
-    let held : r.basis.table ≡ padded (table_rows f n a) = ap (λ (x : Basis). x.table) (normal-rows f n a er flag) in
-    ec ∙ ap (λ (right : List ℕ). checked_of (first_of (match_rule text right ∷ []))) (turned_text f n a b r.basis.table rows held twice)
-    ∙ ap checked_of (sym (normal_passed f n a er flag (match_rule text (matrices_text f n a) ∷ [])))
+built_verdict f n a o accepts {basis} built rows text twice {c} ec =
+    let b : Based f n a = built_based f n a o accepts (normal_passed f n a [] built ∙ first-none) in
+    let held : basis.table ≡ padded (table_rows f n a) = ap (λ (x : Basis). x.table) (normal-rows f n a built) in
+    ec ∙ ap (λ (right : List ℕ). checked_of (first_of (match_rule text right ∷ []))) (turned_text f n a b basis.table rows held twice)
+    ∙ ap checked_of (sym (normal_passed f n a (match_rule text (matrices_text f n a) ∷ []) built))
 
 -- ---- writing
 

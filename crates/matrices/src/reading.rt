@@ -102,15 +102,14 @@ fn read_built(
     requires { Operand f n element × (first_of (field_order f) ≡ clear) }
     ensures { result ≡ issued_of (first_of (match_order f n element text.now)) (summary_of f n element) }
 {
-    let built = build_basis(spread, f, n, element);
-    if !built.normal {
-        return Err(Refusal::from(Fault::NotNormal));
+    match build_basis(spread, f, n, element) {
+        Ok(basis) => {
+            let rows = rows_twice(&basis.table, n as usize);
+            rows.match_verdict(text)?;
+            Ok(summary_of(f, n, element, basis.table))
+        }
+        Err(_) => Err(Refusal::from(Fault::NotNormal)),
     }
-    let basis = built.basis;
-    let table = basis.table;
-    let rows = rows_twice(&table, n as usize);
-    rows.match_verdict(text)?;
-    Ok(summary_of(f, n, element, table))
 }
 
 // 2, 3, 5, 14.

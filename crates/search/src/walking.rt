@@ -26,7 +26,7 @@ fn is_normal(spread: &Spread, m: &Modulus, a: u64) -> bool
     requires { a < 2 ^ m.now.squares.now.n }
     ensures { result ≡ normal m.now.squares.now.f m.now.squares.now.n a }
 {
-    build_basis(spread, m.squares.f, m.squares.n, a).normal
+    build_basis(spread, m.squares.f, m.squares.n, a).is_ok()
 }
 
 // The first normal leader from first to last, by the bases of leaders, if there is one.

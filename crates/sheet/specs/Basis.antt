@@ -1,17 +1,16 @@
 -- Laws that building and reading share: what building a basis answers, and a basis written as a sheet.
 -- Assumes nothing.
-use Rattle.std.specs.Prelude.{◌≡◌, refl, Bool, true, false, not, List, ◌∷◌, ℕ, zero, suc, ◌-◌, ◌*◌, ◌%◌, ◌^◌, ◌≤◌, take}
+use Rattle.std.specs.Prelude.{◌≡◌, refl, Ok, Err, List, ◌∷◌, ℕ, zero, suc, ◌-◌, ◌*◌, ◌%◌, ◌^◌, ◌≤◌, take}
 use Rattle.std.proofs.Common.{sym, ap, ◌∙◌, zero-add, one-mul, arith, shl_exact}
-use Rattle.std.proofs.lemmas.Bool.{not-false}
 use Rattle.gf2.specs.Limit.{limit}
 use Rattle.refusals.specs.Verdicts.{Rule, refuse, first_of}
 use Rattle.refusals.specs.Orders.{first-applies, first_passes}
-use Rattle.normal.specs.Normal.{conjugates, normal, inverse_rows, table_rows, padded}
+use Rattle.normal.specs.Normal.{conjugates, inverse_rows, table_rows, padded}
 use Rattle.normal.specs.Basis.{basis_rows, built_of}
 use Rattle.normal.specs.Coordinates.{listed-length}
 use Rattle.normal.specs.Filling.{padded-at, padded-take}
 use Rattle.normal.specs.declared.basis.Basis.{Basis}
-use Rattle.normal.specs.declared.basis.Built.{Built}
+use Rattle.normal.specs.Built.{built-ok, built-err}
 use Rattle.sheet.specs.Record.{records_to, tail_of, sheet_bytes}
 use Rattle.sheet.specs.Orders.{normal_rule}
 use Rattle.sheet.specs.Bytes.{pasted}
@@ -20,32 +19,16 @@ use Rattle.refusals.specs.declared.fault.Fault.TheVariants as faults
 
 -- ---- what building a basis answers
 
-built_flag : (f n a : ℕ) → (built_of f n a).normal ≡ normal f n a
-unfolding built_of
-built_flag f n a = go (normal f n a) refl
-  where
-    go : (b : Bool) → normal f n a ≡ b → (built_of f n a).normal ≡ normal f n a
-    go true e = rw e
-    go false e = rw e
-
-built_rows : (f n a : ℕ) → normal f n a ≡ true → (built_of f n a).basis ≡ basis_rows f n a
-unfolding built_of
-built_rows f n a e = rw e
-
 -- condition 5, by what building the basis found
-module _ (f n a : ℕ) {r : Built} (e : r ≡ built_of f n a) where
-  flag : r.normal ≡ normal f n a
-  flag = ap (λ (x : Built). x.normal) e ∙ built_flag f n a
+module _ (f n a : ℕ) (rest : List Rule) where
+  pub normal-refused : {set : ℕ} → Err set ≡ built_of f n a → first_of (normal_rule f n a ∷ rest) ≡ refuse faults.NotNormal 0
+  normal-refused e = first-applies (normal_rule f n a) rest (rw (built-err f n a e).0 refl)
 
-  pub normal-refused : (rest : List Rule) → not r.normal ≡ true → first_of (normal_rule f n a ∷ rest) ≡ refuse faults.NotNormal 0
-  normal-refused rest t = first-applies (normal_rule f n a) rest (rw (← flag) t)
+  pub normal_passed : {basis : Basis} → Ok basis ≡ built_of f n a → first_of (normal_rule f n a ∷ rest) ≡ first_of rest
+  normal_passed e = first_passes (normal_rule f n a) rest (rw (built-ok f n a e).0 refl)
 
-  module _ (t : not r.normal ≡ false) where
-    pub normal_passed : (rest : List Rule) → first_of (normal_rule f n a ∷ rest) ≡ first_of rest
-    normal_passed rest = first_passes (normal_rule f n a) rest (rw (← flag) t)
-
-    pub normal-rows : r.basis ≡ basis_rows f n a
-    normal-rows = ap (λ (x : Built). x.basis) e ∙ built_rows f n a (sym flag ∙ not-false r.normal t)
+pub normal-rows : (f n a : ℕ) {basis : Basis} → Ok basis ≡ built_of f n a → basis ≡ basis_rows f n a
+normal-rows f n a e = (built-ok f n a e).1
 
 -- ---- a basis written as a sheet
 

@@ -71,12 +71,10 @@ fn build_judged(
     ensures answer { result ≡ issued_of (first_of (normal_rule f n element ∷ [])) (summary_of f n element) }
     ensures written { buffer.new ≡ left (first_of (normal_rule f n element ∷ [])) (at_front (sheet_bytes f n element) buffer.old) buffer.old }
 {
-    let built = build_basis(spread, f, n, element);
-    if !built.normal {
-        return Err(Refusal::from(Fault::NotNormal));
+    match build_basis(spread, f, n, element) {
+        Ok(basis) => Ok(put_basis(buffer, f, n, element, basis)),
+        Err(_) => Err(Refusal::from(Fault::NotNormal)),
     }
-    let basis = built.basis;
-    Ok(put_basis(buffer, f, n, element, basis))
 }
 
 // The sheet of f and the element, at the buffer's front.

@@ -67,12 +67,10 @@ fn rebuilt_basis(
     requires { Rebuilt sheet.now f n element }
     ensures { result ≡ issued_of (first_of (normal_rule f n element ∷ differ_rules sheet.now (rebuilt_from sheet.now) 0 n)) (summary_in sheet.now) }
 {
-    let built = build_basis(spread, f, n, element);
-    if !built.normal {
-        return Err(Refusal::from(Fault::NotNormal));
+    match build_basis(spread, f, n, element) {
+        Ok(basis) => compared(sheet, f, n, element, basis),
+        Err(_) => Err(Refusal::from(Fault::NotNormal)),
     }
-    let basis = built.basis;
-    compared(sheet, f, n, element, basis)
 }
 
 impl<'a> Sheet<'a> {

@@ -2,7 +2,8 @@
 -- Assumes nothing.
 use native.Mathlib.Omega.{arith}
 use Rattle.sheet.proofs.Issuing.{based-degree, based-most}
-use Rattle.causes.specs.Cases.{right-row}
+use Rattle.std.proofs.Common.{sym, ◌∙◌}
+use Rattle.causes.specs.Cases.{right-row, built_ok}
 use Rattle.causes.proofs.behind.right_row.Goals as goal
 
 pub build_basis-requires : goal.build_basis-requires
@@ -11,6 +12,9 @@ build_basis-requires c =
     let n = c.args.n in
     let a = c.args.element in
     (based-most f n a c.requires.0, record { is_degree = based-degree f n a c.requires.0; below = c.requires.0.below })
+
+pub unwrap-basis-requires : goal.unwrap-basis-requires
+unwrap-basis-requires c = built_ok c.args.f c.args.n c.args.element c.requires.0.is_normal c.build_basis.ensures
 
 pub bounds-basis-i : goal.bounds-basis-i
 bounds-basis-i c = omega (arith, c.requires.1, based-most c.args.f c.args.n c.args.element c.requires.0)
@@ -23,4 +27,4 @@ bounds-basis-i-3 c = omega (arith, c.requires.1, based-most c.args.f c.args.n c.
 
 pub returns : goal.returns
 returns c =
-    right-row c.args.f c.args.n c.args.element c.args.i c.requires.0 c.requires.1 c.build_basis.ensures
+    right-row c.args.f c.args.n c.args.element c.args.i c.requires.0 c.requires.1 (sym c.unwrap-basis.ensures ∙ c.build_basis.ensures)

@@ -15,17 +15,17 @@ use Rattle.matrices.proofs.reading.read_built.Goals as goal
 use Rattle.std.proofs.Common.{rules, ◌≡◌, ap}
 use Rattle.std.specs.Prelude.{Ok, Err}
 
-pub build_basis-built-requires : goal.build_basis-built-requires
-build_basis-built-requires c =
+pub build_basis-requires : goal.build_basis-requires
+build_basis-requires c =
     let o = c.requires.0 in
     (o.in_range.most, record { is_degree = o.in_range.is_degree; below = omega (arith, o.small, pow_mono o.in_range.two) })
 
-pub returns-then-not-built : goal.returns-then-not-built
-returns-then-not-built c =
+pub returns-in-Err : goal.returns-in-Err
+returns-in-Err c =
     let f = c.args.f in
     let n = c.args.n in
     let a = c.args.element in
-    ap Err c.from.ensures ∙ answer-refused Err _ (normal-refused f n a c.build_basis-built.ensures (match_rule c.args.text.now (matrices_text f n a) ∷ []) c.if-not-built.true)
+    ap Err c.from.ensures ∙ answer-refused Err _ (normal-refused f n a (match_rule c.args.text.now (matrices_text f n a) ∷ []) c.in-Err.ensures)
 
 pub rows_twice-rows-requires : goal.rows_twice-rows-requires
 rows_twice-rows-requires c = (omega (arith, c.requires.0.in_range.two), c.requires.0.in_range.most)
@@ -33,22 +33,22 @@ rows_twice-rows-requires c = (omega (arith, c.requires.0.in_range.two), c.requir
 pub summary_of-requires : goal.summary_of-requires
 summary_of-requires c = c.requires.0
 
-pub returns-in_err-match_verdict : goal.returns-in_err-match_verdict
-returns-in_err-match_verdict c =
-    let e : c.from_residual.result ≡ Err c.in_err-match_verdict.field-0.0 = search rules in
+pub returns-in_err-match_verdict-in-Ok : goal.returns-in_err-match_verdict-in-Ok
+returns-in_err-match_verdict-in-Ok c =
+    let e : c.from_residual.result ≡ Err c.in_err-match_verdict-in-Ok.field-0.0 = search rules in
     let f = c.args.f in
     let n = c.args.n in
     let a = c.args.element in
-    let verdict = built_verdict f n a c.requires.0 c.requires.1 c.build_basis-built.ensures c.if-not-built.false c.rows_twice-rows.result.rows c.args.text.now c.rows_twice-rows.ensures.rows
+    let verdict = built_verdict f n a c.requires.0 c.requires.1 c.in-Ok.ensures c.rows_twice-rows.result.rows c.args.text.now c.rows_twice-rows.ensures.rows
     (rw c.rows_twice-rows.ensures.count at c.match_verdict.ensures) in
-    e ∙ judged_refused Err _ (first_of (match_order f n a c.args.text.now)) verdict c.in_err-match_verdict.was
+    e ∙ judged_refused Err _ (first_of (match_order f n a c.args.text.now)) verdict c.in_err-match_verdict-in-Ok.was
 
-pub returns : goal.returns
-returns c =
+pub returns-in_ok-match_verdict-in-Ok : goal.returns-in_ok-match_verdict-in-Ok
+returns-in_ok-match_verdict-in-Ok c =
     let f = c.args.f in
     let n = c.args.n in
     let a = c.args.element in
-    let verdict = built_verdict f n a c.requires.0 c.requires.1 c.build_basis-built.ensures c.if-not-built.false c.rows_twice-rows.result.rows c.args.text.now c.rows_twice-rows.ensures.rows
+    let verdict = built_verdict f n a c.requires.0 c.requires.1 c.in-Ok.ensures c.rows_twice-rows.result.rows c.args.text.now c.rows_twice-rows.ensures.rows
     (rw c.rows_twice-rows.ensures.count at c.match_verdict.ensures) in
-    ap Ok (c.summary_of.ensures ∙ summary_table f n a c.build_basis-built.result.basis (normal-rows f n a c.build_basis-built.ensures c.if-not-built.false))
-    ∙ judged_done Err _ (first_of (match_order f n a c.args.text.now)) verdict c.in_ok-match_verdict.was
+    ap Ok (c.summary_of.ensures ∙ summary_table f n a c.in-Ok.basis (normal-rows f n a c.in-Ok.ensures))
+    ∙ judged_done Err _ (first_of (match_order f n a c.args.text.now)) verdict c.in_ok-match_verdict-in-Ok.was

@@ -10,14 +10,14 @@ use Rattle.sheet.specs.Basis.{normal-refused, normal_passed, normal-rows, sheet_
 use Rattle.sheet.proofs.building.build_judged.Goals as goal
 use Rattle.std.specs.Prelude.{Ok, Err}
 
-pub build_basis-built-requires : goal.build_basis-built-requires
-build_basis-built-requires c =
+pub build_basis-requires : goal.build_basis-requires
+build_basis-requires c =
     let e = c.requires.0 in
     (e.in_range.most, record { is_degree = e.in_range.is_degree; below = omega (arith, e.small, pow_mono e.in_range.two) })
 
-pub returns-then-not-built : goal.returns-then-not-built
-returns-then-not-built c =
-    let v = normal-refused c.args.f c.args.n c.args.element c.build_basis-built.ensures [] c.if-not-built.true in record {
+pub returns-in-Err : goal.returns-in-Err
+returns-in-Err c =
+    let v = normal-refused c.args.f c.args.n c.args.element [] c.in-Err.ensures in record {
       answer = ap Err c.from.ensures ∙ answer-refused Err _ v;
       written = left-refused _ c.args.buffer.now v;
     }
@@ -25,13 +25,13 @@ returns-then-not-built c =
 pub put_basis-requires : goal.put_basis-requires
 put_basis-requires c = (c.requires.0, c.requires.1)
 
-pub returns : goal.returns
-returns c =
+pub returns-in-Ok : goal.returns-in-Ok
+returns-in-Ok c =
     let f = c.args.f in
     let n = c.args.n in
     let a = c.args.element in
-    let v = normal_passed f n a c.build_basis-built.ensures c.if-not-built.false [] ∙ first-none in
-    let rows = normal-rows f n a c.build_basis-built.ensures c.if-not-built.false in record {
-      answer = ap Ok (c.put_basis.ensures.summary ∙ summary_table f n a c.build_basis-built.result.basis rows) ∙ answer-clear Err _ v;
-      written = c.put_basis.ensures.written ∙ sheet_written f n a c.build_basis-built.result.basis c.args.buffer.now rows ∙ left-clear _ c.args.buffer.now v;
+    let v = normal_passed f n a [] c.in-Ok.ensures ∙ first-none in
+    let rows = normal-rows f n a c.in-Ok.ensures in record {
+      answer = ap Ok (c.put_basis.ensures.summary ∙ summary_table f n a c.in-Ok.basis rows) ∙ answer-clear Err _ v;
+      written = c.put_basis.ensures.written ∙ sheet_written f n a c.in-Ok.basis c.args.buffer.now rows ∙ left-clear _ c.args.buffer.now v;
     }

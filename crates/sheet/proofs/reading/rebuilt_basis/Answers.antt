@@ -10,22 +10,22 @@ use Rattle.sheet.specs.Rebuilding.{rebuilt_element}
 use Rattle.sheet.proofs.reading.rebuilt_basis.Goals as goal
 use Rattle.std.specs.Prelude.{Err}
 
-pub build_basis-built-requires : goal.build_basis-built-requires
-build_basis-built-requires c =
+pub build_basis-requires : goal.build_basis-requires
+build_basis-requires c =
     let e = rebuilt_element c.args.sheet.now c.args.f c.args.n c.args.element c.requires in
     (e.in_range.most, record { is_degree = e.in_range.is_degree; below = e.small })
 
-pub returns-then-not-built : goal.returns-then-not-built
-returns-then-not-built c =
-    ap Err c.from.ensures ∙ answer-refused Err _ (normal-refused c.args.f c.args.n c.args.element c.build_basis-built.ensures _ c.if-not-built.true)
+pub returns-in-Err : goal.returns-in-Err
+returns-in-Err c =
+    ap Err c.from.ensures ∙ answer-refused Err _ (normal-refused c.args.f c.args.n c.args.element _ c.in-Err.ensures)
 
 pub compared-requires : goal.compared-requires
 compared-requires c =
-    (c.requires, normal-rows c.args.f c.args.n c.args.element c.build_basis-built.ensures c.if-not-built.false)
+    (c.requires, normal-rows c.args.f c.args.n c.args.element c.in-Ok.ensures)
 
-pub returns : goal.returns
-returns c =
+pub returns-in-Ok : goal.returns-in-Ok
+returns-in-Ok c =
     let sheet = c.args.sheet.now in
     c.compared.ensures
     ∙ ap (λ (v : Verdict). issued_of v (summary_in sheet))
-    (sym (normal_passed c.args.f c.args.n c.args.element c.build_basis-built.ensures c.if-not-built.false (differ_rules sheet (rebuilt_from sheet) 0 c.args.n)))
+    (sym (normal_passed c.args.f c.args.n c.args.element (differ_rules sheet (rebuilt_from sheet) 0 c.args.n) c.in-Ok.ensures))
