@@ -3,216 +3,158 @@
 ghost use Rattle.std.specs.Prelude.{◌≤◌, length};
 ghost use Rattle.io.specs.Counts.{IsPrefixLen};
 
-use super::complaints::{say, say_number, say_number_form, say_polynomial_form, say_quoted};
-use super::converting::{Notation, convert_list};
-use super::filling::{Stop, fill};
-use super::input::{degree_named, line_space};
-use super::lines::{CHUNK, Cursor, Source};
+use super::complaints::Errors;
+use super::converting::Conversion;
+use super::input::{Form, degree_named};
+use super::lines::{Lines, Stop};
 use super::output::Output;
 use super::refusing::{TOO_LARGE, refuse, refuse_line};
 use super::values::{list_space, put_values};
-use refusals::{Checked, Refusal};
+use refusals::Refusal;
+use std::fmt;
+use std::fmt::Write;
 use std::io::Read;
-use streams::{Ending, Host, done_if};
+use streams::{Failure, Host};
 
 // No input has more lists.
 const MOST: u64 = u64::MAX;
 
-// The values before a place of a list: the place, or all if the list ends before it.
-fn counted(place: usize, list: &[u64]) -> usize
-    ensures counts { IsPrefixLen result list.now }
-    ensures low { result ≤ place }
+// The next values of the input, as many as a list has room for or as were read: how many there are, and why there are no more. So each
+// line that is typed is answered at once.
+fn fill<F: Form, H: Host, R: Read>(lines: &mut Lines<'_, H, R>, values: &mut [u64]) -> (usize, Stop)
+    ensures { IsPrefixLen result.0 values.new }
 {
-    if place > list.len() {
-        return list.len();
-    }
-    place
-}
-
-// The values of a list before a place, converted and written. Each slice is taken by a count that is known to fit it.
-fn convert_before<H: Host>(
-    goal: Notation,
-    bytes: &[u8],
-    from: &[u64],
-    into: &mut [u64],
-    place: usize,
-    output: &mut Output<'_, H>,
-) -> bool
-    requires { length into.old ≤ 4096 }
-{
-    let count = counted(counted(place, from), into);
-    convert_list(goal, bytes, &from[..count], &mut into[..count]);
-    let written = counted(count, into);
-    put_values(output, &into[..written])
-}
-
-// A refused list. The values before coordinates that are too large are converted and written.
-fn refuse_part<H: Host>(
-    goal: Notation,
-    bytes: &[u8],
-    from: &[u64],
-    into: &mut [u64],
-    before: u64,
-    refusal: Refusal,
-    output: &mut Output<'_, H>,
-) -> Ending
-    requires { length into.old ≤ 4096 }
-{
-    let place = refusal.place;
-    if refusal.number != TOO_LARGE {
-        return refuse(output.host, refusal);
-    }
-    if place >= from.len() {
-        return refuse(output.host, refusal);
-    }
-    let value = from[place];
-    if !convert_before(goal, bytes, from, into, place, output) {
-        return Ending::Failed;
-    }
-    let index = before.wrapping_add(place as u64);
-    refuse_line(output.host, index, value, degree_named(bytes))
-}
-
-// The values of one list, converted and written. There were `before` values in the lists before it.
-fn convert_part<H: Host>(
-    goal: Notation,
-    bytes: &[u8],
-    from: &[u64],
-    into: &mut [u64],
-    before: u64,
-    output: &mut Output<'_, H>,
-) -> Ending
-    requires { length into.old ≤ 4096 }
-{
-    match convert_list(goal, bytes, from, into) {
-        Checked::Refused(refusal) => {
-            refuse_part(goal, bytes, from, into, before, refusal, output)
+    for count in 0..values.len() {
+        if count > 0 && lines.is_spent() {
+            return (count, Stop::Full);
         }
-        Checked::Done => done_if(put_values(output, into)),
+        match lines.next_value::<F>() {
+            Ok(value) => values[count] = value,
+            Err(stop) => return (count, stop),
+        }
+    }
+    (values.len(), Stop::Full)
+}
+
+// Values that are carried through a sheet: its bytes, the values of one list, and how many there were in the lists before it.
+#[derive(Clone, Copy)]
+struct Part<'a> {
+    bytes: &'a [u8],
+    values: &'a [u64],
+    before: u64,
+}
+
+impl Part<'_> {
+    // The values before a place, converted and written.
+    fn put_before<C: Conversion, H: Host>(
+        self,
+        place: usize,
+        output: &mut Output<'_, H>,
+    ) -> Result<(), Failure>
+        requires { length self.values.now ≤ 4096 }
+    {
+        let mut space = list_space();
+        let values = self.values.get(..place).unwrap_or(self.values);
+        let into = &mut space[..values.len()];
+        let _ = C::convert(self.bytes, values, into);
+        put_values(output, into)
+    }
+
+    // A refused list. The values before coordinates that are too large are converted and written.
+    fn refuse<C: Conversion, H: Host>(
+        self,
+        refusal: Refusal,
+        output: &mut Output<'_, H>,
+    ) -> Result<(), Failure>
+        requires { length self.values.now ≤ 4096 }
+    {
+        let place = refusal.place;
+        match self.values.get(place) {
+            Some(value) if refusal.number == TOO_LARGE => {
+                self.put_before::<C, H>(place, output)?;
+                let index = self.before.wrapping_add(place as u64);
+                Err(refuse_line(output.host, index, *value, degree_named(self.bytes)))
+            }
+            _ => Err(refuse(output.host, refusal)),
+        }
+    }
+
+    // The values, converted and written.
+    fn put<C: Conversion, H: Host>(self, output: &mut Output<'_, H>) -> Result<(), Failure>
+        requires { length self.values.now ≤ 4096 }
+    {
+        let mut space = list_space();
+        let into = &mut space[..self.values.len()];
+        match C::convert(self.bytes, self.values, into) {
+            Ok(()) => put_values(output, into),
+            Err(refusal) => self.refuse::<C, H>(refusal, output),
+        }
     }
 }
 
-// The start of what is said of a line: its number.
-fn say_line<H: Host>(host: &H, line: u64) {
-    say(host, b"desk: line ");
-    say_number(host, line);
-    say(host, b": ");
+// The next list of the input, converted and written. The result is why it has no more values.
+fn next_part<C: Conversion, H: Host, R: Read>(
+    bytes: &[u8],
+    lines: &mut Lines<'_, H, R>,
+    output: &mut Output<'_, H>,
+) -> Result<Stop, Failure> {
+    let before = lines.count();
+    let mut space = list_space();
+    let (count, stop) = fill::<C::From, H, R>(lines, &mut space);
+    let part = Part {
+        bytes,
+        values: &space[..count],
+        before,
+    };
+    part.put::<C, H>(output)?;
+    Ok(stop)
 }
 
-fn say_form<H: Host>(host: &H, goal: Notation) -> Ending {
-    match goal {
-        Notation::Normal => say_polynomial_form(host),
-        Notation::Polynomial => say_number_form(host),
+// What is said of the last line that was read, if it has no value.
+fn say_line<F: Form, H: Host, R: Read>(
+    host: &H,
+    lines: &Lines<'_, H, R>,
+    is_long: bool,
+) -> fmt::Result {
+    let mut errors = Errors(host);
+    let count = lines.count();
+    let expected = F::EXPECTED;
+    write!(errors, "desk: line {count}: ")?;
+    if is_long {
+        errors.write_str("a word of more than 256 bytes")?;
+    } else {
+        errors.quoted(lines.word())?;
     }
-    Ending::BadWord
+    writeln!(errors, " {expected}")
 }
 
 // How the command ends when the values of the last list are written.
-fn ending_of<H: Host>(host: &H, goal: Notation, stop: Stop, line: u64, word: &[u8]) -> Ending {
+fn end<F: Form, H: Host, R: Read>(
+    host: &H,
+    lines: &Lines<'_, H, R>,
+    stop: Stop,
+) -> Result<(), Failure> {
     match stop {
-        Stop::Full => Ending::Done,
-        Stop::End => Ending::Done,
-        Stop::Failed => Ending::Failed,
-        Stop::Unclear => {
-            say_line(host, line);
-            say_quoted(host, word);
-            say_form(host, goal)
+        Stop::Full | Stop::End => Ok(()),
+        Stop::Failed(failure) => Err(failure),
+        Stop::Unclear | Stop::Long => {
+            let _ = say_line::<F, H, R>(host, lines, stop == Stop::Long);
+            Err(Failure::BadWord)
         }
-        Stop::Long => {
-            say_line(host, line);
-            say(host, b"a word of more than 256 bytes");
-            say_form(host, goal)
-        }
-    }
-}
-
-// One list: where the reader stands after it, how the command ends if it is the last, and whether it is.
-#[derive(Clone, Copy)]
-struct Part {
-    cursor: Cursor,
-    ending: Ending,
-    last: bool,
-}
-
-// Whether the command goes on after a list: it is full, and was written.
-fn goes_on(stop: Stop, ending: Ending) -> bool {
-    match stop {
-        Stop::Full => is_done(ending),
-        _ => false,
-    }
-}
-
-fn is_done(ending: Ending) -> bool {
-    match ending {
-        Ending::Done => true,
-        _ => false,
-    }
-}
-
-// The next list of the input, converted and written.
-fn next_part<H: Host, R: Read>(
-    goal: Notation,
-    bytes: &[u8],
-    source: &mut Source<'_, H, R>,
-    chunk: &mut [u8; CHUNK],
-    cursor: Cursor,
-    output: &mut Output<'_, H>,
-) -> Part
-    requires { cursor.size ≤ 65536 }
-    ensures { result.cursor.size ≤ 65536 }
-{
-    let before = cursor.line;
-    let mut word = line_space();
-    let mut from = list_space();
-    let mut into = list_space();
-    let filled = fill(goal, source, chunk, cursor, &mut word, &mut from);
-    let count = counted(filled.count, &into);
-    let cursor = filled.cursor;
-    let ending = convert_part(
-        goal,
-        bytes,
-        &from[..count],
-        &mut into[..count],
-        before,
-        output,
-    );
-    if is_done(ending) {
-        let wrong = &word[..filled.size];
-        let ending = ending_of(output.host, goal, filled.stop, cursor.line, wrong);
-        let last = !goes_on(filled.stop, ending);
-        return Part {
-            cursor,
-            ending,
-            last,
-        };
-    }
-    Part {
-        cursor,
-        ending,
-        last: true,
     }
 }
 
 // Converts the values of an open input, list by list.
-pub(crate) fn convert_input<H: Host, R: Read>(
-    goal: Notation,
+pub(crate) fn convert_input<C: Conversion, H: Host, R: Read>(
     bytes: &[u8],
-    source: &mut Source<'_, H, R>,
+    lines: &mut Lines<'_, H, R>,
     output: &mut Output<'_, H>,
-) -> Ending {
-    let mut chunk = io::large_buffer();
-    let mut cursor = Cursor {
-        at: 0,
-        size: 0,
-        line: 0,
-    };
+) -> Result<(), Failure> {
     for _ in 0..MOST {
-        let part = next_part(goal, bytes, source, &mut chunk, cursor, output);
-        if part.last {
-            return part.ending;
+        let stop = next_part::<C, H, R>(bytes, lines, output)?;
+        if stop != Stop::Full {
+            return end::<C::From, H, R>(output.host, lines, stop);
         }
-        let next = part.cursor;
-        cursor = next;
     }
-    Ending::Failed
+    Err(Failure::Failed)
 }

@@ -1,7 +1,6 @@
 // The commands, and the word that names each.
-use check::same;
 
-#[derive(Clone, Copy)]
+#[derive(Clone, Copy, Debug, PartialEq, Eq)]
 pub(crate) enum Command {
     Check,
     Multiply,
@@ -22,68 +21,45 @@ pub(crate) enum Command {
     Polynomial,
     Help,
     Version,
-    Unknown,
 }
 
-fn field_command_of(word: &[u8]) -> Command {
-    if same(word, b"check") {
-        Command::Check
-    } else if same(word, b"multiply") {
-        Command::Multiply
-    } else if same(word, b"square") {
-        Command::Square
-    } else if same(word, b"trace") {
-        Command::Trace
-    } else if same(word, b"search") {
-        Command::Search
-    } else {
-        Command::Unknown
+impl Command {
+    // The command that a word names.
+    pub(crate) fn named(word: &[u8]) -> Option<Command> {
+        let command = match word {
+            b"check" => Command::Check,
+            b"multiply" => Command::Multiply,
+            b"square" => Command::Square,
+            b"trace" => Command::Trace,
+            b"search" => Command::Search,
+            b"build" => Command::Build,
+            b"show" => Command::Show,
+            b"list" => Command::List,
+            b"verify" => Command::Verify,
+            b"why" => Command::Why,
+            b"matrices" => Command::Matrices,
+            b"read-matrices" => Command::ReadMatrices,
+            b"times" => Command::Times,
+            b"inverse" => Command::Inverse,
+            b"quotient" => Command::Quotient,
+            b"normal" => Command::Normal,
+            b"polynomial" => Command::Polynomial,
+            b"help" => Command::Help,
+            b"version" => Command::Version,
+            _ => return None,
+        };
+        Some(command)
     }
-}
 
-fn matrix_command_of(word: &[u8]) -> Command {
-    if same(word, b"matrices") {
-        Command::Matrices
-    } else if same(word, b"read-matrices") {
-        Command::ReadMatrices
-    } else {
-        field_command_of(word)
+    // Whether the command reads what --from names. A page is printed whatever else is given.
+    pub(crate) fn takes_from(self) -> bool {
+        matches!(
+            self,
+            Command::Normal
+                | Command::Polynomial
+                | Command::ReadMatrices
+                | Command::Help
+                | Command::Version
+        )
     }
-}
-
-fn sheet_command_of(word: &[u8]) -> Command {
-    if same(word, b"build") {
-        Command::Build
-    } else if same(word, b"show") {
-        Command::Show
-    } else if same(word, b"list") {
-        Command::List
-    } else if same(word, b"verify") {
-        Command::Verify
-    } else if same(word, b"why") {
-        Command::Why
-    } else if same(word, b"times") {
-        Command::Times
-    } else if same(word, b"inverse") {
-        Command::Inverse
-    } else if same(word, b"quotient") {
-        Command::Quotient
-    } else if same(word, b"normal") {
-        Command::Normal
-    } else if same(word, b"polynomial") {
-        Command::Polynomial
-    } else {
-        matrix_command_of(word)
-    }
-}
-
-// The command that a word names.
-pub(crate) fn command_of(word: &[u8]) -> Command {
-    if same(word, b"help") {
-        return Command::Help;
-    }
-    if same(word, b"version") {
-        return Command::Version;
-    }
-    sheet_command_of(word)
 }

@@ -1,152 +1,98 @@
 // Lines on words that cannot be used: which word, and what is expected. Each goes to standard error, and nothing else is written. A line
 // that cannot be written leaves the exit status to say that a word is bad; a refusal's is tested.
 use super::input::word_space;
-use streams::{Ending, Host, word_at};
+use std::fmt;
+use std::fmt::Write;
+use streams::{Failure, Host};
 
-pub(crate) fn say<H: Host>(host: &H, text: &[u8]) -> bool {
-    host.say(text).is_ok()
-}
+// Standard error, to be written to. A word or a name that is shown there need not be text.
+#[derive(Drop)]
+pub(crate) struct Errors<'a, H>(pub(crate) &'a H);
 
-pub(crate) fn say_number<H: Host>(host: &H, number: u64) -> bool {
-    let mut digits = [0u8; 20];
-    let count = io::decimal(number, &mut digits);
-    say(host, &digits[..count])
-}
-
-// A byte as it is, or its number in hexadecimal if a terminal would take it for a command.
-fn say_byte<H: Host>(host: &H, byte: u8) -> bool {
-    if byte >= 32 && byte != 127 {
-        return say(host, &[byte]);
+impl<H: Host> Write for Errors<'_, H> {
+    fn write_str(&mut self, text: &str) -> fmt::Result {
+        self.bytes(text.as_bytes())
     }
-    let mut digits = [0u8; 16];
-    let count = io::hex(byte as u64, 2, &mut digits);
-    say(host, b"\\x") && say(host, &digits[..count])
 }
 
-fn say_bytes<H: Host>(host: &H, word: &[u8]) -> bool {
-    for byte in word {
-        if !say_byte(host, *byte) {
-            return false;
+impl<H: Host> Errors<'_, H> {
+    pub(crate) fn bytes(&mut self, bytes: &[u8]) -> fmt::Result {
+        self.0.say(bytes).map_err(|_| fmt::Error)
+    }
+
+    // A byte as it is, or its number in hexadecimal if a terminal would take it for a command.
+    fn byte(&mut self, byte: u8) -> fmt::Result {
+        match byte {
+            0..=31 | 127 => write!(self, "\\x{byte:02x}"),
+            _ => self.bytes(&[byte]),
         }
     }
-    true
-}
 
-// A word between quotes.
-pub(crate) fn say_quoted<H: Host>(host: &H, word: &[u8]) -> bool {
-    say(host, b"'") && say_bytes(host, word) && say(host, b"'")
-}
+    // A word between quotes.
+    pub(crate) fn quoted(&mut self, word: &[u8]) -> fmt::Result {
+        self.write_str("'")?;
+        for byte in word {
+            self.byte(*byte)?;
+        }
+        self.write_str("'")
+    }
 
-// Word i, between quotes. One that is too long for the space is not shown.
-pub(crate) fn say_word<H: Host>(host: &H, i: usize) -> bool {
-    let mut space = word_space();
-    match host.arg(i, &mut space) {
-        Ok(size) => say_quoted(host, &space[..size]),
-        Err(_) => say(host, b"a word of more than 256 bytes"),
+    // Word i, between quotes. One that is too long for the space is not shown.
+    pub(crate) fn word(&mut self, i: usize) -> fmt::Result {
+        let mut space = word_space();
+        match self.0.arg(i, &mut space) {
+            Ok(size) => self.quoted(&space[..size]),
+            Err(_) => self.write_str("a word of more than 256 bytes"),
+        }
+    }
+
+    fn bad_word(&mut self, i: usize, fault: Fault) -> fmt::Result {
+        self.write_str("desk: ")?;
+        self.word(i)?;
+        writeln!(self, " {fault}")
     }
 }
 
-// What is expected of a polynomial, and of a number.
-pub(crate) fn say_polynomial_form<H: Host>(host: &H) {
-    say(
-        host,
-        b" is no polynomial; write it in decimal (19), in hexadecimal (0x13) or as falling exponents (4:1:0), below 2^64\n",
-    );
+// What is wrong with a word of the command line.
+#[derive(Clone, Copy)]
+pub(crate) enum Fault {
+    // It is no value; what is expected of one.
+    NoValue(&'static str),
+    // The command that it names was given too few or too many words; how it is called.
+    WrongCount(&'static str),
+    NoCommand,
+    NoOption,
+    // It is the last word, and an option that a file is to follow.
+    NoFile,
+    Twice,
 }
 
-pub(crate) fn say_number_form<H: Host>(host: &H) {
-    say(
-        host,
-        b" is no number; write it in decimal (19) or in hexadecimal (0x13), below 2^64\n",
-    );
+impl fmt::Display for Fault {
+    fn fmt<W: fmt::Write>(&self, f: &mut fmt::Formatter<W>) -> fmt::Result {
+        match self {
+            Fault::NoValue(expected) => write!(f, "{expected}"),
+            Fault::WrongCount(usage) => {
+                write!(
+                    f,
+                    "was given too few or too many words; write: desk {usage}"
+                )
+            }
+            Fault::NoCommand => write!(f, "is no command; desk help lists them"),
+            Fault::NoOption => write!(f, "is no option; desk help lists them"),
+            Fault::NoFile => write!(f, "needs a file after it"),
+            Fault::Twice => write!(f, "was given twice"),
+        }
+    }
 }
 
-// Word i is no polynomial.
-pub(crate) fn no_polynomial<H: Host>(host: &H, i: usize) {
-    say(host, b"desk: ");
-    say_word(host, i);
-    say_polynomial_form(host);
+// Word i cannot be used.
+pub(crate) fn bad_word<H: Host>(host: &H, i: usize, fault: Fault) -> Failure {
+    let _ = Errors(host).bad_word(i, fault);
+    Failure::BadWord
 }
 
-// Word i is no number.
-pub(crate) fn no_number<H: Host>(host: &H, i: usize) {
-    say(host, b"desk: ");
-    say_word(host, i);
-    say_number_form(host);
-}
-
-// The command that word i names was given too few or too many words.
-pub(crate) fn wrong_count<H: Host>(host: &H, i: usize, usage: &[u8]) -> Ending {
-    say(host, b"desk: ");
-    say_word(host, i);
-    say(host, b" was given too few or too many words; write: desk ");
-    say(host, usage);
-    say(host, b"\n");
-    Ending::BadWord
-}
-
-pub(crate) fn unknown_command<H: Host>(host: &H, i: usize) -> Ending {
-    say(host, b"desk: ");
-    say_word(host, i);
-    say(host, b" is no command; desk help lists them\n");
-    Ending::BadWord
-}
-
-pub(crate) fn unknown_option<H: Host>(host: &H, i: usize) -> Ending {
-    say(host, b"desk: ");
-    say_word(host, i);
-    say(host, b" is no option; desk help lists them\n");
-    Ending::BadWord
-}
-
-// Option i is the last word, and a file is to follow it.
-pub(crate) fn no_file<H: Host>(host: &H, i: usize) -> Ending {
-    say(host, b"desk: ");
-    say_word(host, i);
-    say(host, b" needs a file after it\n");
-    Ending::BadWord
-}
-
-// Option i was given before.
-pub(crate) fn given_twice<H: Host>(host: &H, i: usize) -> Ending {
-    say(host, b"desk: ");
-    say_word(host, i);
-    say(host, b" was given twice\n");
-    Ending::BadWord
-}
-
-// The command takes no --from.
-pub(crate) fn no_from<H: Host>(host: &H) -> Ending {
-    say(
-        host,
-        b"desk: '--from' goes with 'normal', 'polynomial' and 'read-matrices' alone\n",
-    );
-    Ending::BadWord
-}
-
-// Sheet and values are both to come from standard input.
-pub(crate) fn one_input<H: Host>(host: &H) -> Ending {
-    say(
-        host,
-        b"desk: the sheet and the values cannot both be standard input; name a file for one\n",
-    );
-    Ending::BadWord
-}
-
-// A list of more values than one call converts.
-pub(crate) fn too_many_values<H: Host>(host: &H) -> Ending {
-    say(
-        host,
-        b"desk: more than 4096 values; give them by line, from standard input (-) or with --from FILE\n",
-    );
-    Ending::BadWord
-}
-
-// A sheet would go to a terminal.
-pub(crate) fn no_text<H: Host>(host: &H) -> Ending {
-    say(
-        host,
-        b"desk: a sheet is bytes and no text for a terminal; write: desk build F ELEMENT > FILE, or --to FILE\n",
-    );
-    Ending::BadWord
+// The words cannot be used together.
+pub(crate) fn bad_words<H: Host>(host: &H, why: &str) -> Failure {
+    let _ = writeln!(Errors(host), "desk: {why}");
+    Failure::BadWord
 }

@@ -1,96 +1,58 @@
 // The commands on numbers: check, multiply, square, trace and search.
-use super::answers::{answer_check, answer_search, answer_value};
-use super::complaints::wrong_count;
-use super::input::polynomial_at;
-use super::options::{Given, WORDS_ROOM};
-use super::output::Output;
+use super::answers::{put_best, put_value};
+use super::input::Polynomial;
+use super::refusing::refuse;
+use super::task::Task;
+use super::telling::refuse_for;
+use super::verdicts::{checked, searched, valued};
 use gf2::degree_of;
-use streams::{Ending, Host};
+use refusals::Value;
+use streams::{Failure, Host};
 
-pub(crate) fn check<H: Host>(
-    places: &[usize; WORDS_ROOM],
-    given: Given,
-    output: &mut Output<'_, H>,
-) -> Ending {
-    if given.words != 2 {
-        return wrong_count(output.host, places[0], b"check F");
+impl<H: Host> Task<'_, H> {
+    // The polynomials that the command's words are, of which there are to be N.
+    fn polynomials<const N: usize>(&self, usage: &'static str) -> Result<[u64; N], Failure> {
+        self.have(N.saturating_add(1), usage)?;
+        self.values::<Polynomial, N>(1)
     }
-    let Some(f) = polynomial_at(output.host, places[1]) else {
-        return Ending::BadWord;
-    };
-    answer_check(output, f)
 }
 
-pub(crate) fn multiply<H: Host>(
-    places: &[usize; WORDS_ROOM],
-    given: Given,
-    output: &mut Output<'_, H>,
-) -> Ending {
-    if given.words != 4 {
-        return wrong_count(output.host, places[0], b"multiply F A B");
+// Whether f is accepted; if not, its refusal with the cause.
+pub(crate) fn check<H: Host>(task: &mut Task<'_, H>) -> Result<(), Failure> {
+    let [f] = task.polynomials::<1>("check F")?;
+    match checked(field::check(f)) {
+        Ok(()) => task.output.put(b"accepted\n"),
+        Err(refusal) => Err(refuse_for(task.host(), refusal, causes::why_check(f))),
     }
-    let Some(f) = polynomial_at(output.host, places[1]) else {
-        return Ending::BadWord;
-    };
-    let Some(a) = polynomial_at(output.host, places[2]) else {
-        return Ending::BadWord;
-    };
-    let Some(b) = polynomial_at(output.host, places[3]) else {
-        return Ending::BadWord;
-    };
-    answer_value(output, field::multiply(f, a, b))
 }
 
-pub(crate) fn square<H: Host>(
-    places: &[usize; WORDS_ROOM],
-    given: Given,
-    output: &mut Output<'_, H>,
-) -> Ending {
-    if given.words != 3 {
-        return wrong_count(output.host, places[0], b"square F A");
+// The value of a call that takes operands of any size, so that none is too large.
+fn answer<H: Host>(task: &mut Task<'_, H>, answer: Value) -> Result<(), Failure> {
+    match valued(answer) {
+        Ok(value) => put_value(&mut task.output, value),
+        Err(refusal) => Err(refuse(task.host(), refusal)),
     }
-    let Some(f) = polynomial_at(output.host, places[1]) else {
-        return Ending::BadWord;
-    };
-    let Some(a) = polynomial_at(output.host, places[2]) else {
-        return Ending::BadWord;
-    };
-    answer_value(output, field::square(f, a))
 }
 
-pub(crate) fn trace<H: Host>(
-    places: &[usize; WORDS_ROOM],
-    given: Given,
-    output: &mut Output<'_, H>,
-) -> Ending {
-    if given.words != 3 {
-        return wrong_count(output.host, places[0], b"trace F A");
-    }
-    let Some(f) = polynomial_at(output.host, places[1]) else {
-        return Ending::BadWord;
-    };
-    let Some(a) = polynomial_at(output.host, places[2]) else {
-        return Ending::BadWord;
-    };
-    answer_value(output, field::trace(f, a))
+pub(crate) fn multiply<H: Host>(task: &mut Task<'_, H>) -> Result<(), Failure> {
+    let [f, a, b] = task.polynomials::<3>("multiply F A B")?;
+    answer(task, field::multiply(f, a, b))
 }
 
-pub(crate) fn search<H: Host>(
-    places: &[usize; WORDS_ROOM],
-    given: Given,
-    output: &mut Output<'_, H>,
-) -> Ending {
-    if given.words != 4 {
-        return wrong_count(output.host, places[0], b"search F FIRST LAST");
+pub(crate) fn square<H: Host>(task: &mut Task<'_, H>) -> Result<(), Failure> {
+    let [f, a] = task.polynomials::<2>("square F A")?;
+    answer(task, field::square(f, a))
+}
+
+pub(crate) fn trace<H: Host>(task: &mut Task<'_, H>) -> Result<(), Failure> {
+    let [f, a] = task.polynomials::<2>("trace F A")?;
+    answer(task, field::trace(f, a))
+}
+
+pub(crate) fn search<H: Host>(task: &mut Task<'_, H>) -> Result<(), Failure> {
+    let [f, first, last] = task.polynomials::<3>("search F FIRST LAST")?;
+    match searched(search::search(f, first, last)) {
+        Ok(best) => put_best(&mut task.output, best),
+        Err(refusal) => Err(task.refuse(refusal, degree_of(f))),
     }
-    let Some(f) = polynomial_at(output.host, places[1]) else {
-        return Ending::BadWord;
-    };
-    let Some(first) = polynomial_at(output.host, places[2]) else {
-        return Ending::BadWord;
-    };
-    let Some(last) = polynomial_at(output.host, places[3]) else {
-        return Ending::BadWord;
-    };
-    answer_search(output, search::search(f, first, last), places, degree_of(f))
 }

@@ -1,150 +1,124 @@
 // Lines of an input, one at a time. A line is a word; its end is byte 10, or the end of the input.
-ghost use Rattle.std.specs.Prelude.{◌≡◌, ◌≤◌, IfSome};
-ghost use Rattle.io.specs.Counts.{IsPrefixLen};
+ghost use Rattle.std.specs.Prelude.{◌≡◌, ◌≤◌, length};
 
+use super::input::{Form, WORD_ROOM};
 use std::io::Read;
-use streams::{Host, cannot};
+use streams::{Failure, Host, cannot};
 
 // As much of the input as is read at once.
-pub(crate) const CHUNK: usize = 65536;
+const CHUNK: usize = 65536;
 
 pub(crate) const NEWLINE: u8 = 10;
 
-// An open input, and what it is called if a read fails.
-#[derive(Drop)]
-pub(crate) struct Source<'a, H, R> {
-    pub(crate) host: &'a H,
-    pub(crate) input: &'a mut R,
-    pub(crate) name: &'a [u8],
+// A line's room: that of a word, and one byte by which a longer line shows.
+const LINE_ROOM: usize = WORD_ROOM + 1;
+
+fn line_space() -> [u8; LINE_ROOM]
+    ensures { 257 ≡ length result }
+{
+    [0; LINE_ROOM]
 }
 
-// Where the reader stands: the place of the next byte in the chunk, the bytes that the chunk has, and the number of the last line read.
-#[derive(Clone, Copy)]
-pub(crate) struct Cursor {
-    pub(crate) at: usize,
-    pub(crate) size: usize,
-    pub(crate) line: u64,
-}
-
-// What the next line is: a word; one too long for its room; none, at the end of the input; none, since a read failed.
-#[derive(Clone, Copy)]
-pub(crate) enum Kind {
-    Whole,
-    Long,
+// Why there is no further value: the list of values is full, or the next line would have to be waited for; the input has ended; the last
+// line is no value; it is too long; a read failed.
+#[derive(Clone, Copy, Debug, PartialEq, Eq)]
+pub(crate) enum Stop {
+    Full,
     End,
-    Failed,
+    Unclear,
+    Long,
+    Failed(Failure),
 }
 
-// The next line, its length and where the reader then stands.
-#[derive(Clone, Copy)]
-pub(crate) struct Line {
-    pub(crate) cursor: Cursor,
-    pub(crate) size: usize,
-    pub(crate) kind: Kind,
-}
-
-// A chunk with a byte to take at a place below its end; no byte if the input has ended or a read failed.
-#[derive(Clone, Copy)]
-struct Ready {
-    at: usize,
+// An open input, and what it is called if a read fails; what was read of it at once, the place of the next byte there and that of its
+// end; the last line's word; and how many lines were read.
+#[derive(Drop)]
+pub(crate) struct Lines<'a, H, R> {
+    host: &'a H,
+    input: &'a mut R,
+    name: &'a [u8],
+    chunk: [u8; CHUNK],
+    next: usize,
     end: usize,
-    failed: bool,
+    space: [u8; LINE_ROOM],
+    size: usize,
+    count: u64,
+    ghost is_read: { end ≤ 65536 },
+    ghost is_word: { size ≤ 257 },
 }
 
-// The bytes that a read puts at the chunk's front, if it does not fail. If it does, a line says so.
-fn read_chunk<H: Host, R: Read>(
-    source: &mut Source<'_, H, R>,
-    chunk: &mut [u8; CHUNK],
-) -> Option<usize>
-    ensures { IfSome result (λ size. size ≤ 65536) }
-{
-    match source.input.read(chunk) {
-        Ok(size) => Some(size),
-        Err(why) => {
-            cannot(source.host, b"read", source.name, &why);
-            None
-        }
-    }
-}
-
-// The chunk as it is, or read anew if all of it was taken. If that fails, a line says so.
-fn chunk_at<H: Host, R: Read>(
-    source: &mut Source<'_, H, R>,
-    chunk: &mut [u8; CHUNK],
-    at: usize,
-    end: usize,
-) -> Ready
-    requires { end ≤ 65536 }
-    ensures { result.end ≤ 65536 }
-{
-    if at < end {
-        return Ready {
-            at,
-            end,
-            failed: false,
-        };
-    }
-    match read_chunk(source, chunk) {
-        Some(size) => Ready {
-            at: 0,
-            end: size,
-            failed: false,
-        },
-        None => Ready {
-            at: 0,
+impl<'a, H: Host, R: Read> Lines<'a, H, R> {
+    pub(crate) fn new(host: &'a H, input: &'a mut R, name: &'a [u8]) -> Self {
+        Lines {
+            host,
+            input,
+            name,
+            chunk: io::large_buffer(),
+            next: 0,
             end: 0,
-            failed: true,
-        },
-    }
-}
-
-// What a line is that the end of the input or a failed read cut off: a last line without its byte 10 is whole.
-fn cut_off(failed: bool, size: usize) -> Kind {
-    if failed {
-        return Kind::Failed;
-    }
-    if size > 0 { Kind::Whole } else { Kind::End }
-}
-
-// A line, and the reader after it. No input has as many lines as the count of lines has room for.
-fn line_of(at: usize, end: usize, line: u64, size: usize, kind: Kind) -> Line
-    ensures { (result.cursor.size ≡ end) × (result.size ≡ size) }
-{
-    let cursor = Cursor {
-        at,
-        size: end,
-        line: line.wrapping_add(1),
-    };
-    Line { cursor, size, kind }
-}
-
-// The next line, at the front of `word`.
-pub(crate) fn next_line<H: Host, R: Read>(
-    source: &mut Source<'_, H, R>,
-    chunk: &mut [u8; CHUNK],
-    cursor: Cursor,
-    word: &mut [u8],
-) -> Line
-    requires { cursor.size ≤ 65536 }
-    ensures { (result.cursor.size ≤ 65536) × IsPrefixLen result.size word.new }
-{
-    let mut at = cursor.at;
-    let mut end = cursor.size;
-    let line = cursor.line;
-    for size in 0..word.len() {
-        let ready = chunk_at(source, chunk, at, end);
-        at = ready.at;
-        end = ready.end;
-        if at >= end {
-            let kind = cut_off(ready.failed, size);
-            return line_of(at, end, line, size, kind);
+            space: line_space(),
+            size: 0,
+            count: 0,
         }
-        let byte = chunk[at];
-        at += 1;
-        if byte == NEWLINE {
-            return line_of(at, end, line, size, Kind::Whole);
-        }
-        word[size] = byte;
     }
-    line_of(at, end, line, word.len(), Kind::Long)
+
+    // How many lines were read. No input has as many as there is room for.
+    pub(crate) fn count(&self) -> u64 {
+        self.count
+    }
+
+    // The word of the line that was read last.
+    pub(crate) fn word(&self) -> &[u8] {
+        &self.space[..self.size]
+    }
+
+    // Whether another line would have to be waited for.
+    pub(crate) fn is_spent(&self) -> bool {
+        self.next >= self.end
+    }
+
+    // Reads the next bytes, if all were taken. If that fails, a line says so.
+    fn fill(&mut self) -> Result<(), Stop> {
+        if !self.is_spent() {
+            return Ok(());
+        }
+        self.next = 0;
+        self.end = 0;
+        match self.input.read(&mut self.chunk) {
+            Ok(size) => self.end = size,
+            Err(why) => return Err(Stop::Failed(cannot(self.host, b"read", self.name, &why))),
+        }
+        Ok(())
+    }
+
+    // The next byte; none at the end of the input.
+    fn next_byte(&mut self) -> Result<Option<u8>, Stop> {
+        self.fill()?;
+        if self.next >= self.end {
+            return Ok(None);
+        }
+        let byte = self.chunk[self.next];
+        self.next += 1;
+        Ok(Some(byte))
+    }
+
+    // Reads the next line. A last line without its byte 10 is whole.
+    fn next_line(&mut self) -> Result<(), Stop> {
+        self.count = self.count.wrapping_add(1);
+        for size in 0..LINE_ROOM {
+            self.size = size;
+            match self.next_byte()? {
+                None if size == 0 => return Err(Stop::End),
+                None | Some(NEWLINE) => return Ok(()),
+                Some(byte) => self.space[size] = byte,
+            }
+        }
+        Err(Stop::Long)
+    }
+
+    // The value of the next line.
+    pub(crate) fn next_value<F: Form>(&mut self) -> Result<u64, Stop> {
+        self.next_line()?;
+        F::value_of(self.word()).ok_or(Stop::Unclear)
+    }
 }

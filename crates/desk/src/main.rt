@@ -11,7 +11,6 @@ mod command;
 mod complaints;
 mod converting;
 mod field_commands;
-mod filling;
 mod input;
 mod lines;
 mod listed;
@@ -23,116 +22,77 @@ mod pages;
 mod refusing;
 mod replacing;
 mod sheet_commands;
+mod task;
 mod telling;
 mod values;
+mod verdicts;
 
-use command::{Command, command_of};
-use options::{Given, Mark, WORDS_ROOM};
-use output::Output;
-use streams::{Ending, Host, word_at};
+use command::Command;
+use complaints::{Fault, bad_word, bad_words};
+use options::Given;
+use streams::{Ending, Failure, Host, word_at};
+use task::Task;
 
-fn run<H: Host>(
-    command: Command,
-    places: &[usize; WORDS_ROOM],
-    given: Given,
-    output: &mut Output<'_, H>,
-) -> Ending {
+fn run<H: Host>(command: Option<Command>, task: &mut Task<'_, H>) -> Result<(), Failure> {
+    let Some(command) = command else {
+        return Err(bad_word(task.host(), task.place(0), Fault::NoCommand));
+    };
     match command {
-        Command::Check => field_commands::check(places, given, output),
-        Command::Multiply => field_commands::multiply(places, given, output),
-        Command::Square => field_commands::square(places, given, output),
-        Command::Trace => field_commands::trace(places, given, output),
-        Command::Search => field_commands::search(places, given, output),
-        Command::Build => sheet_commands::build(places, given, output),
-        Command::Show => sheet_commands::show(places, given, output),
-        Command::List => sheet_commands::list(places, given, output),
-        Command::Verify => sheet_commands::verify(places, given, output),
-        Command::Why => sheet_commands::why(places, given, output),
-        Command::Matrices => sheet_commands::matrices(places, given, output),
-        Command::ReadMatrices => matrix_text::read(places, given, output),
-        Command::Times => sheet_commands::times(places, given, output),
-        Command::Inverse => sheet_commands::inverse(places, given, output),
-        Command::Quotient => sheet_commands::quotient(places, given, output),
-        Command::Normal => converting::normal(places, given, output),
-        Command::Polynomial => converting::polynomial(places, given, output),
-        Command::Help => pages::put_help(output),
-        Command::Version => pages::put_version(output),
-        Command::Unknown => complaints::unknown_command(output.host, places[0]),
+        Command::Check => field_commands::check(task),
+        Command::Multiply => field_commands::multiply(task),
+        Command::Square => field_commands::square(task),
+        Command::Trace => field_commands::trace(task),
+        Command::Search => field_commands::search(task),
+        Command::Build => sheet_commands::build(task),
+        Command::Show => sheet_commands::show(task),
+        Command::List => sheet_commands::list(task),
+        Command::Verify => sheet_commands::verify(task),
+        Command::Why => sheet_commands::why(task),
+        Command::Matrices => sheet_commands::matrices(task),
+        Command::ReadMatrices => matrix_text::read(task),
+        Command::Times => sheet_commands::times(task),
+        Command::Inverse => sheet_commands::inverse(task),
+        Command::Quotient => sheet_commands::quotient(task),
+        Command::Normal => converting::normal(task),
+        Command::Polynomial => converting::polynomial(task),
+        Command::Help => pages::put_help(task),
+        Command::Version => pages::put_version(task),
     }
 }
 
-// The command that the first word names. No word at all asks for help.
-fn command_given<H: Host>(host: &H, places: &[usize; WORDS_ROOM], given: Given) -> Command {
+// The command that the first word names, if there is such a command. No word at all asks for help.
+fn command_given<H: Host>(host: &H, given: &Given) -> Option<Command> {
     if given.help {
-        return Command::Help;
+        return Some(Command::Help);
     }
     if given.version {
-        return Command::Version;
+        return Some(Command::Version);
     }
-    if given.words == 0 {
-        return Command::Help;
-    }
-    let mut space = input::word_space();
-    let size = word_at(host, places[0], &mut space);
-    command_of(&space[..size])
-}
-
-// Whether the command reads what --from names. A page is printed whatever else is given.
-fn takes_from(command: Command) -> bool {
-    match command {
-        Command::Normal => true,
-        Command::Polynomial => true,
-        Command::ReadMatrices => true,
-        Command::Help => true,
-        Command::Version => true,
-        _ => false,
-    }
-}
-
-// The option at a place cannot be used: it is unknown, its file is missing, or it was given before.
-fn refuse_option<H: Host>(host: &H, i: usize, awaits: usize) -> Ending {
-    match options::mark_at(host, i) {
-        Mark::Unknown => complaints::unknown_option(host, i),
-        _ => {
-            if i == awaits {
-                return complaints::no_file(host, i);
-            }
-            complaints::given_twice(host, i)
-        }
-    }
-}
-
-// Closes what the command wrote to, and returns how it ended in the end. On a refusal `why` has answered, and no other command has.
-fn close<H: Host>(command: Command, output: Output<'_, H>, ending: Ending) -> Ending {
-    match command {
-        Command::Why => replacing::close_answer(output, ending),
-        _ => replacing::close_output(output, ending),
-    }
-}
-
-fn answer_given<H: Host>(host: &H, places: &[usize; WORDS_ROOM], given: Given) -> Ending {
-    let command = command_given(host, places, given);
-    if given.from != 0 {
-        if !takes_from(command) {
-            return complaints::no_from(host);
-        }
-    }
-    let Some(mut output) = replacing::open_output(host, given) else {
-        return Ending::Failed;
+    let Some(first) = given.words.places().first() else {
+        return Some(Command::Help);
     };
-    let ending = run(command, places, given, &mut output);
-    close(command, output, ending)
+    let mut space = input::word_space();
+    Command::named(word_at(host, *first, &mut space))
 }
 
-fn answer<H: Host>(host: &H) -> Ending {
-    let mut places = options::places_space();
-    let given = options::gather(host, &mut places);
-    if given.fault != 0 {
-        return refuse_option(host, given.fault, given.awaits);
+// On a refusal `why` has answered, and no other command has.
+fn answer<H: Host>(host: &H) -> Result<(), Failure> {
+    let given = options::gather(host)?;
+    let command = command_given(host, &given);
+    if given.from.is_some() && !command.is_some_and(Command::takes_from) {
+        let why = "'--from' goes with 'normal', 'polynomial' and 'read-matrices' alone";
+        return Err(bad_words(host, why));
     }
-    answer_given(host, &places, given)
+    let output = replacing::open_output(host, &given)?;
+    let mut task = Task { given, output };
+    let ended = run(command, &mut task);
+    let Task { given: _, output } = task;
+    if command == Some(Command::Why) {
+        return output.close_answer(ended);
+    }
+    output.close(ended)
 }
 
 fn main(rt: HostRuntime) {
-    streams::end(&rt, answer(&rt));
+    streams::end(&rt, Ending::from(answer(&rt)));
 }

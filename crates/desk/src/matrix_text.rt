@@ -1,20 +1,17 @@
 // The n matrices of a sheet as text (document 02, §4): written from a sheet, and read back for f and an element.
-ghost use Rattle.std.specs.Prelude.{◌≡◌, ◌+◌, ◌*◌, ◌≤◌, length, IfSome};
-ghost use Rattle.io.specs.Counts.{IsPrefixLen};
+ghost use Rattle.std.specs.Prelude.{◌≡◌, ◌+◌, ◌*◌, ◌≤◌, length};
 ghost use Rattle.gf2.specs.Limit.{limit};
 ghost use Rattle.matrices.specs.Matrices.{text_size};
 
-use super::complaints::wrong_count;
-use super::input::{polynomial_at, read_input, read_standard};
+use super::input::{Polynomial, read_input, read_standard};
 use super::listed::put_accepted;
-use super::mismatch::refuse_text;
-use super::options::{Given, WORDS_ROOM};
 use super::output::Output;
 use super::refusing::refuse;
+use super::task::Task;
+use super::verdicts::issued;
 use gf2::LIMIT;
 use matrices::{TEXT_LIMIT, read_matrices, text_size, write_matrices};
-use sheet::Issued;
-use streams::{Ending, Host, done_if};
+use streams::{Failure, Host};
 
 // Room for the longest text, and one byte by which a longer input shows. Every right text is shorter than this room. So the bytes that
 // fill it decide on a longer input too: it is refused, at the same place as its beginning.
@@ -38,62 +35,36 @@ fn size_for(n: usize) -> usize
 }
 
 // The matrices of a sheet that reading accepts, or its refusal.
-pub(crate) fn answer_matrices<H: Host>(output: &mut Output<'_, H>, bytes: &[u8]) -> Ending {
+pub(crate) fn answer_matrices<H: Host>(
+    output: &mut Output<'_, H>,
+    bytes: &[u8],
+) -> Result<(), Failure> {
     let mut text = text_space();
-    match write_matrices(bytes, &mut text) {
-        Issued::Refused(refusal) => refuse(output.host, refusal),
-        Issued::Done(summary) => {
-            let size = io::count(size_for(summary.degree as usize) as isize, &text);
-            done_if(output.put(&text[..size]))
-        }
+    match issued(write_matrices(bytes, &mut text)) {
+        Ok(summary) => output.put(&text[..size_for(summary.degree as usize)]),
+        Err(refusal) => Err(refuse(output.host, refusal)),
     }
 }
 
 // The text of the file after --from, or of standard input if there is none. What follows after the room is full is not read.
-fn read_text<H: Host>(host: &H, given: Given, text: &mut [u8]) -> Option<usize>
-    ensures { IfSome result (λ size. IsPrefixLen size text.new) }
-{
-    if given.from != 0 {
-        return read_input(host, given.from, text);
+fn read_text<'s, H: Host>(task: &Task<'_, H>, space: &'s mut [u8]) -> Result<&'s [u8], Failure> {
+    match task.given.from {
+        Some(from) => read_input(task.host(), from, space),
+        None => read_standard(task.host(), space),
     }
-    read_standard(host, text)
 }
 
 // The line on the matrices of f and the element if the text has them, or the refusal.
-fn answer_text<H: Host>(
-    output: &mut Output<'_, H>,
-    f: u64,
-    element: u64,
-    text: &[u8],
-    places: &[usize; WORDS_ROOM],
-) -> Ending {
-    match read_matrices(f, element, text) {
-        Issued::Refused(refusal) => refuse_text(output.host, refusal, text, f, places),
-        Issued::Done(summary) => done_if(put_accepted(output, f, element, summary)),
+pub(crate) fn read<H: Host>(task: &mut Task<'_, H>) -> Result<(), Failure> {
+    task.have(
+        3,
+        "read-matrices F ELEMENT < TEXT, or desk read-matrices F ELEMENT --from TEXT",
+    )?;
+    let [f, element] = task.values::<Polynomial, 2>(1)?;
+    let mut space = text_space();
+    let text = read_text(task, &mut space)?;
+    match issued(read_matrices(f, element, text)) {
+        Ok(summary) => put_accepted(&mut task.output, f, element, summary),
+        Err(refusal) => Err(task.refuse_text(refusal, text, f)),
     }
-}
-
-pub(crate) fn read<H: Host>(
-    places: &[usize; WORDS_ROOM],
-    given: Given,
-    output: &mut Output<'_, H>,
-) -> Ending {
-    if given.words != 3 {
-        return wrong_count(
-            output.host,
-            places[0],
-            b"read-matrices F ELEMENT < TEXT, or desk read-matrices F ELEMENT --from TEXT",
-        );
-    }
-    let Some(f) = polynomial_at(output.host, places[1]) else {
-        return Ending::BadWord;
-    };
-    let Some(element) = polynomial_at(output.host, places[2]) else {
-        return Ending::BadWord;
-    };
-    let mut text = text_space();
-    let Some(size) = read_text(output.host, given, &mut text) else {
-        return Ending::Failed;
-    };
-    answer_text(output, f, element, &text[..size], places)
 }

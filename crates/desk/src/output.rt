@@ -1,48 +1,67 @@
 // Where answers go: standard output, or the file that --to names. Every write is tested, and one that fails has said so.
-use super::input::path_at;
-use streams::{Host, write_output, write_whole};
+use std::fmt;
+use streams::{Failure, Host, word_at, write_output, write_whole};
 
-// What the command is run on; the new file that answers are written to, none for standard output; the place of its name on the command
-// line, and the mark of the new file beside it; whether values are written in hexadecimal. An output is closed by replacing.rt: it cannot
-// be let go.
+// A new file that is to replace the one that a word of the command line names: the word's place, and the mark in the new file's name.
+pub(crate) struct Replacement<F> {
+    pub(crate) file: F,
+    pub(crate) place: usize,
+    pub(crate) mark: u32,
+}
+
+// What the command is run on; what answers are written to, none for standard output; whether values are written in hexadecimal. An output
+// is closed by replacing.rt: it cannot be let go.
 pub(crate) struct Output<'a, H: Host> {
     pub(crate) host: &'a H,
-    pub(crate) file: Option<H::File>,
-    pub(crate) place: usize,
-    pub(crate) mark: u64,
+    pub(crate) replacement: Option<Replacement<H::File>>,
     pub(crate) hex: bool,
 }
 
+// A polynomial, an element or coordinates: in decimal, or in hexadecimal if that is asked for.
+#[derive(Clone, Copy)]
+pub(crate) struct Shown {
+    value: u64,
+    hex: bool,
+}
+
+impl fmt::Display for Shown {
+    fn fmt<W: fmt::Write>(&self, f: &mut fmt::Formatter<W>) -> fmt::Result {
+        let value = self.value;
+        if self.hex {
+            write!(f, "{value:#x}")
+        } else {
+            write!(f, "{value}")
+        }
+    }
+}
+
 impl<H: Host> Output<'_, H> {
-    // Writes the text.
-    pub(crate) fn put(&mut self, text: &[u8]) -> bool {
-        let Some(file) = &mut self.file else {
-            return write_output(self.host, text);
+    // Writes the bytes.
+    pub(crate) fn put(&mut self, bytes: &[u8]) -> Result<(), Failure> {
+        let Some(replacement) = &mut self.replacement else {
+            return write_output(self.host, bytes);
         };
         let mut path = io::buffer();
-        let size = path_at(self.host, self.place, &mut path);
-        write_whole(self.host, file, &path[..size], text)
+        let name = word_at(self.host, replacement.place, &mut path);
+        write_whole(self.host, &mut replacement.file, name, bytes)
     }
 
-    // A count, in decimal, after its name.
-    pub(crate) fn put_count(&mut self, name: &[u8], count: u64) -> bool {
-        let mut digits = [0u8; 20];
-        let size = io::decimal(count, &mut digits);
-        self.put(name) && self.put(&digits[..size])
-    }
-
-    // A polynomial, an element or coordinates after their name, in hexadecimal if that is asked for.
-    pub(crate) fn put_value(&mut self, name: &[u8], value: u64) -> bool {
-        if !self.hex {
-            return self.put_count(name, value);
+    // How a value is shown.
+    pub(crate) fn shown(&self, value: u64) -> Shown {
+        Shown {
+            value,
+            hex: self.hex,
         }
-        let mut digits = [0u8; 16];
-        let size = io::hex(value, 1, &mut digits);
-        self.put(name) && self.put(b"0x") && self.put(&digits[..size])
     }
 
     // Whether answers go to a terminal. A file that --to names is none.
     pub(crate) fn is_terminal(&self) -> bool {
-        self.file.is_none() && self.host.shows_terminal()
+        self.replacement.is_none() && self.host.shows_terminal()
+    }
+}
+
+impl<H: Host> fmt::Write for Output<'_, H> {
+    fn write_str(&mut self, text: &str) -> fmt::Result {
+        self.put(text.as_bytes()).map_err(|_| fmt::Error)
     }
 }

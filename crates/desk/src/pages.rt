@@ -1,126 +1,67 @@
 // The pages that `desk help` and `desk version` print.
-use super::output::Output;
-use streams::{Ending, Host, done_if};
+use super::task::Task;
+use std::fmt::Write;
+use streams::{Failure, Host};
 
-fn put_number_commands<H: Host>(output: &mut Output<'_, H>) -> bool {
-    output.put(b"desk check F                    whether the defining polynomial F is accepted\n")
-        && output.put(
-            b"desk multiply F A B             A times B modulo F; A and B may be any 64-bit numbers\n",
-        )
-        && output.put(
-            b"desk square F A                 A times A modulo F; A may be any 64-bit number\n",
-        )
-        && output.put(
-            b"desk trace F A                  the sum of the conjugates of A, 0 or 1; A may be any 64-bit number\n",
-        )
-        && output.put(
-            b"desk search F FIRST LAST        the normal basis of least complexity from FIRST to LAST\n",
-        )
-}
+// The lines of the help page.
+const HELP: [&str; 47] = [
+    "desk check F                    whether the defining polynomial F is accepted",
+    "desk multiply F A B             A times B modulo F; A and B may be any 64-bit numbers",
+    "desk square F A                 A times A modulo F; A may be any 64-bit number",
+    "desk trace F A                  the sum of the conjugates of A, 0 or 1; A may be any 64-bit number",
+    "desk search F FIRST LAST        the normal basis of least complexity from FIRST to LAST",
+    "desk build F ELEMENT            the sheet of ELEMENT, its bytes on standard output",
+    "desk show F ELEMENT             the sheet of ELEMENT, listed",
+    "desk list SHEET                 a sheet, read and listed; without SHEET, standard input",
+    "desk verify SHEET               whether a sheet is right: degree, F, element, complexity and grade;",
+    "                                without SHEET, standard input",
+    "desk why SHEET                  why a sheet is refused, in one sentence; without SHEET, standard input",
+    "desk normal SHEET VALUE..       the normal coordinates of elements, which may be any 64-bit numbers;",
+    "                                with - for VALUE, from standard input",
+    "desk polynomial SHEET VALUE..   the elements of normal coordinates; with - for VALUE, from standard input",
+    "desk times SHEET A B            the product of normal coordinates",
+    "desk inverse SHEET A            the inverse of normal coordinates",
+    "desk quotient SHEET A B         A divided by B, in normal coordinates",
+    "desk matrices SHEET             all matrices of a sheet as text; without SHEET, standard input",
+    "desk read-matrices F ELEMENT    whether the text on standard input is that of F and ELEMENT:",
+    "                                degree, F, element, complexity and grade",
+    "desk help                       this page; also -h and --help",
+    "desk version                    the version; also --version",
+    "",
+    "--hex          writes polynomials, elements and coordinates in hexadecimal",
+    "--from FILE    with normal and polynomial: reads the values from FILE, one a line;",
+    "               with read-matrices: reads the text from FILE",
+    "--to FILE      writes the answer to FILE, which is replaced only if all was written",
+    "",
+    "F is a polynomial of degree 2 to 46, an element one of smaller degree. Bit i of its number is the",
+    "coefficient of x^i: x^4 + x + 1 is 19, 0x13 or, by its exponents, 4:1:0. Coordinates are decimal or 0x",
+    "hexadecimal numbers. SHEET is a file that desk build wrote, or - for standard input. By line come",
+    "any number of values, one each; a line that is no value ends the command, and those before it are converted.",
+    "Elements may come unreduced: multiply, square, trace and normal take any number below 2^64, and answer for",
+    "its remainder modulo F, or modulo the polynomial of the sheet; desk multiply F A 1 is the remainder itself.",
+    "ELEMENT, FIRST, LAST and normal coordinates must be below 2^n, for degree n.",
+    "A listing has a line for each row: its number, conjugate, inverse row and table row.",
+    "The text of the matrices has n matrices for degree n, and an empty line after each. A row is a line of n digits:",
+    "digit j of row i in matrix k is bit k of the normal coordinates of conjugate i times conjugate j.",
+    "Grade 0: the complexity is not 2n-1, for degree n. If it is, the basis is optimal: grade 1 of the first kind,",
+    "2 of the second, 3 of both (at degree 2).",
+    "",
+    "A refusal is a line on standard error: refused NUMBER PLACE, and what it means. With check, build, show and list",
+    "the cause of 2, 3, 5 and 10 follows alone on a second line, in decimal: for 2 the smallest divisor of F of degree",
+    "1 or more; for 3 what x became; for 5 the smallest number above 0 whose set bits select conjugates that sum to",
+    "zero; for 10 the record, the word conjugate, inverse or table, the stored number and the right one.",
+    "The sentence of why goes to standard output, and the exit status says whether the sheet is refused.",
+    "Exit status: 0 done, 1 refused, 2 a word cannot be used, 3 could not run, read or write.",
+];
 
-fn put_sheet_commands<H: Host>(output: &mut Output<'_, H>) -> bool {
-    output.put(
-        b"desk build F ELEMENT            the sheet of ELEMENT, its bytes on standard output\n",
-    ) && output.put(b"desk show F ELEMENT             the sheet of ELEMENT, listed\n")
-        && output.put(
-            b"desk list SHEET                 a sheet, read and listed; without SHEET, standard input\n",
-        )
-        && output.put(
-            b"desk verify SHEET               whether a sheet is right: degree, F, element, complexity and grade;\n                                without SHEET, standard input\n",
-        )
-        && output.put(
-            b"desk why SHEET                  why a sheet is refused, in one sentence; without SHEET, standard input\n",
-        )
-        && output.put(
-            b"desk normal SHEET VALUE..       the normal coordinates of elements, which may be any 64-bit numbers;\n                                with - for VALUE, from standard input\n",
-        )
-        && output.put(
-            b"desk polynomial SHEET VALUE..   the elements of normal coordinates; with - for VALUE, from standard input\n",
-        )
-        && output.put(b"desk times SHEET A B            the product of normal coordinates\n")
-        && output.put(b"desk inverse SHEET A            the inverse of normal coordinates\n")
-        && output.put(b"desk quotient SHEET A B         A divided by B, in normal coordinates\n")
-}
-
-fn put_matrix_commands<H: Host>(output: &mut Output<'_, H>) -> bool {
-    output.put(
-        b"desk matrices SHEET             all matrices of a sheet as text; without SHEET, standard input\n",
-    ) && output.put(
-        b"desk read-matrices F ELEMENT    whether the text on standard input is that of F and ELEMENT:\n                                degree, F, element, complexity and grade\n",
-    )
-}
-
-fn put_other_commands<H: Host>(output: &mut Output<'_, H>) -> bool {
-    output.put(b"desk help                       this page; also -h and --help\n")
-        && output.put(b"desk version                    the version; also --version\n")
-        && output.put(b"\n")
-        && output.put(
-            b"--hex          writes polynomials, elements and coordinates in hexadecimal\n",
-        )
-        && output.put(
-            b"--from FILE    with normal and polynomial: reads the values from FILE, one a line;\n               with read-matrices: reads the text from FILE\n",
-        )
-        && output.put(
-            b"--to FILE      writes the answer to FILE, which is replaced only if all was written\n",
-        )
-}
-
-fn put_notations<H: Host>(output: &mut Output<'_, H>) -> bool {
-    output.put(
-        b"\nF is a polynomial of degree 2 to 46, an element one of smaller degree. Bit i of its number is the\n",
-    ) && output.put(
-        b"coefficient of x^i: x^4 + x + 1 is 19, 0x13 or, by its exponents, 4:1:0. Coordinates are decimal or 0x\n",
-    ) && output.put(
-        b"hexadecimal numbers. SHEET is a file that desk build wrote, or - for standard input. By line come\n",
-    ) && output.put(
-        b"any number of values, one each; a line that is no value ends the command, and those before it are converted.\n",
-    )
-}
-
-fn put_unreduced<H: Host>(output: &mut Output<'_, H>) -> bool {
-    output.put(
-        b"Elements may come unreduced: multiply, square, trace and normal take any number below 2^64, and answer for\n",
-    ) && output.put(
-        b"its remainder modulo F, or modulo the polynomial of the sheet; desk multiply F A 1 is the remainder itself.\n",
-    ) && output.put(
-        b"ELEMENT, FIRST, LAST and normal coordinates must be below 2^n, for degree n.\n",
-    )
-}
-
-fn put_forms<H: Host>(output: &mut Output<'_, H>) -> bool {
-    output.put(
-        b"A listing has a line for each row: its number, conjugate, inverse row and table row.\n",
-    ) && output.put(
-        b"The text of the matrices has n matrices for degree n, and an empty line after each. A row is a line of n digits:\ndigit j of row i in matrix k is bit k of the normal coordinates of conjugate i times conjugate j.\n",
-    ) && output.put(
-        b"Grade 0: the complexity is not 2n-1, for degree n. If it is, the basis is optimal: grade 1 of the first kind,\n2 of the second, 3 of both (at degree 2).\n",
-    )
-}
-
-fn put_endings<H: Host>(output: &mut Output<'_, H>) -> bool {
-    output.put(
-        b"\nA refusal is a line on standard error: refused NUMBER PLACE, and what it means. With check, build, show and list\nthe cause of 2, 3, 5 and 10 follows alone on a second line, in decimal: for 2 the smallest divisor of F of degree\n1 or more; for 3 what x became; for 5 the smallest number above 0 whose set bits select conjugates that sum to\nzero; for 10 the record, the word conjugate, inverse or table, the stored number and the right one.\n",
-    ) && output.put(
-        b"The sentence of why goes to standard output, and the exit status says whether the sheet is refused.\n",
-    ) && output.put(
-        b"Exit status: 0 done, 1 refused, 2 a word cannot be used, 3 could not run, read or write.\n",
-    )
-}
-
-pub(crate) fn put_help<H: Host>(output: &mut Output<'_, H>) -> Ending {
-    done_if(
-        put_number_commands(output)
-            && put_sheet_commands(output)
-            && put_matrix_commands(output)
-            && put_other_commands(output)
-            && put_notations(output)
-            && put_unreduced(output)
-            && put_forms(output)
-            && put_endings(output),
-    )
+pub(crate) fn put_help<H: Host>(task: &mut Task<'_, H>) -> Result<(), Failure> {
+    for line in HELP {
+        writeln!(task.output, "{line}")?;
+    }
+    Ok(())
 }
 
 // The one version number of the program, the C header and the Rust crate.
-pub(crate) fn put_version<H: Host>(output: &mut Output<'_, H>) -> Ending {
-    done_if(output.put(b"desk 4.0.0\n"))
+pub(crate) fn put_version<H: Host>(task: &mut Task<'_, H>) -> Result<(), Failure> {
+    task.output.put(b"desk 4.0.0\n")
 }

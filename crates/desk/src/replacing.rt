@@ -1,114 +1,88 @@
 // The file that --to names. The answer is written to a new file beside it, which is synced and takes its name when the command is done;
 // otherwise the file stays as it was.
-ghost use Rattle.std.specs.Prelude.{◌<◌};
-ghost use Rattle.io.specs.Counts.{IsPrefixLen};
-
-use super::complaints::say;
-use super::input::{is_dash, path_at, text_of};
+use super::complaints::Errors;
+use super::input::{is_dash, text_of};
 use super::options::Given;
-use super::output::Output;
-use listing::put_bytes;
+use super::output::{Output, Replacement};
 use std::fs;
 use std::fs::{OpenFile, OpenOptions};
-use std::io::{Error, ErrorKind, Seek, SeekFrom};
-use streams::{Ending, Host, cannot, done_if};
+use std::io::{Error, ErrorKind, Seek, SeekFrom, Write};
+use streams::{Failure, Host, cannot, word_at};
 
 // The longest path that a name beside it has room for.
 const LONGEST: usize = 4000;
 
-// A byte as a number.
-fn wide(byte: u8) -> u64
-    ensures { result < 256 }
-{
-    byte as u64
-}
+// Room for the name beside it.
+const NAME_ROOM: usize = 4096;
 
 // A number that another command hardly has too. If the system has none to give, it is 0, and a file of that name is still not taken.
-fn chance<H: Host>(host: &H) -> u64 {
+fn chance<H: Host>(host: &H) -> u32 {
     let mut bytes = [0u8; 4];
     let _ = host.fill_bytes(&mut bytes);
-    ((wide(bytes[0]) * 256 + wide(bytes[1])) * 256 + wide(bytes[2])) * 256 + wide(bytes[3])
+    u32::from_be_bytes(bytes)
 }
 
-// Puts the name of the new file at the front of the space, and returns its length: the path and a mark, so that no two commands write to
-// the same one. It is 0 if the path is too long.
-fn name_beside(path: &[u8], mark: u64, space: &mut [u8; 4096]) -> usize
-    ensures { IsPrefixLen result space.new }
-{
-    if path.len() > LONGEST {
-        return 0;
-    }
-    let mut digits = [0u8; 20];
-    let count = io::decimal(mark, &mut digits);
-    let first = put_bytes(space, 0, path);
-    let second = put_bytes(space, first, b".desk-");
-    put_bytes(space, second, &digits[..count])
+// The name of the new file, put at the front of the space: the path and a mark, so that no two commands write to the same one.
+fn name_beside<'s>(
+    path: &[u8],
+    mark: u32,
+    space: &'s mut [u8; NAME_ROOM],
+) -> Result<&'s str, Error> {
+    let mut rest: &mut [u8] = space;
+    rest.write_all(path)?;
+    write!(rest, ".desk-{mark}")?;
+    let size = NAME_ROOM.saturating_sub(rest.len());
+    text_of(&space[..size])
 }
 
 // Whether an open file is one of bytes: the reader can be placed past its first byte, as in no terminal, no pipe and no device such as
 // /dev/null.
 fn is_regular<F: Seek>(file: &mut F) -> bool {
-    match file.seek(SeekFrom::Start(1)) {
-        Ok(at) => at == 1,
-        Err(_) => false,
-    }
+    file.seek(SeekFrom::Start(1)).is_ok_and(|at| at == 1)
 }
 
 // Opens what is at a path, to be read and written and not changed by that.
 fn open_update<H: Host>(host: &H, path: &[u8]) -> Result<H::File, Error> {
-    match text_of(path) {
-        Ok(text) => OpenOptions::new().read(true).write(true).open(host, text),
-        Err(why) => Err(why),
+    OpenOptions::new()
+        .read(true)
+        .write(true)
+        .open(host, text_of(path)?)
+}
+
+// A line on a path that is not written to, though the system would. The run ends as failed.
+fn will_not<H: Host>(host: &H, path: &[u8], why: &str) -> Failure {
+    for part in [
+        b"desk: cannot write ".as_slice(),
+        path,
+        why.as_bytes(),
+        b"\n".as_slice(),
+    ] {
+        let _ = Errors(host).bytes(part);
     }
+    Failure::Failed
 }
 
 // Whether a path may be replaced: nothing is there, or a regular file that may be written. If not, a line says why.
-fn may_replace<H: Host>(host: &H, path: &[u8]) -> bool {
+fn may_replace<H: Host>(host: &H, path: &[u8]) -> Result<(), Failure> {
     match open_update(host, path) {
         Ok(mut file) => {
-            let regular = is_regular(&mut file);
-            if !regular {
-                say(host, b"desk: cannot write ");
-                say(host, path);
-                say(host, b": it is no regular file\n");
+            if !is_regular(&mut file) {
+                return Err(will_not(host, path, ": it is no regular file"));
             }
-            regular
+            Ok(())
         }
-        Err(why) => {
-            if why.kind() == ErrorKind::NotFound {
-                return true;
-            }
-            cannot(host, b"write", path, &why);
-            false
-        }
+        Err(why) if why.kind() == ErrorKind::NotFound => Ok(()),
+        Err(why) => Err(cannot(host, b"write", path, &why)),
     }
 }
 
-// Makes a file that is not there yet, open for writing.
-fn create<H: Host>(host: &H, name: &[u8]) -> Result<H::File, Error> {
-    match text_of(name) {
-        Ok(text) => OpenOptions::new()
-            .write(true)
-            .create_new(true)
-            .open(host, text),
-        Err(why) => Err(why),
-    }
-}
-
-// A new file beside the path, open for writing. If there is none, a line has said so.
-fn open_beside<H: Host>(host: &H, path: &[u8], mark: u64) -> Option<H::File> {
-    if !may_replace(host, path) {
-        return None;
-    }
+// Makes a file beside the path that is not there yet, open for writing.
+fn create<H: Host>(host: &H, path: &[u8], mark: u32) -> Result<H::File, Error> {
     let mut space = io::buffer();
-    let size = name_beside(path, mark, &mut space);
-    match create(host, &space[..size]) {
-        Ok(file) => Some(file),
-        Err(why) => {
-            cannot(host, b"write", path, &why);
-            None
-        }
-    }
+    OpenOptions::new()
+        .write(true)
+        .create_new(true)
+        .open(host, name_beside(path, mark, &mut space)?)
 }
 
 // Whether a path names a link.
@@ -116,148 +90,125 @@ fn is_link<H: Host>(host: &H, path: &[u8]) -> bool {
     let Ok(text) = text_of(path) else {
         return false;
     };
-    match fs::symlink_metadata(host, text) {
-        Ok(there) => there.is_symlink(),
-        Err(_) => false,
-    }
+    fs::symlink_metadata(host, text).is_ok_and(|there| there.is_symlink())
 }
 
 // A new file beside the one that word i names, open for writing. If there is none, a line has said so. A link stays: another name would
 // take its place, and not that of the file that it leads to.
-fn open_replaced<H: Host>(host: &H, i: usize, mark: u64) -> Option<H::File> {
-    let mut path = io::buffer();
-    let size = path_at(host, i, &mut path);
-    if size == 0 || size > LONGEST {
-        say(
-            host,
-            b"desk: cannot write a path that is empty or has more than 4000 bytes\n",
-        );
-        return None;
-    }
-    if is_link(host, &path[..size]) {
-        say(
-            host,
-            b"desk: cannot write a link; name the file that it leads to\n",
-        );
-        return None;
-    }
-    open_beside(host, &path[..size], mark)
-}
-
-// The place of the file that --to names; 0 for standard output, which `-` stands for too.
-fn place_to<H: Host>(host: &H, given: Given) -> usize {
-    if given.to == 0 {
-        return 0;
-    }
-    if is_dash(host, given.to) { 0 } else { given.to }
-}
-
-// What answers are written to. If it cannot be opened, a line says so.
-pub(crate) fn open_output<H: Host>(host: &H, given: Given) -> Option<Output<'_, H>> {
-    let place = place_to(host, given);
+fn open_replaced<H: Host>(host: &H, place: usize) -> Result<Replacement<H::File>, Failure> {
     let mark = chance(host);
-    let mut file = None;
-    if place != 0 {
-        file = Some(open_replaced(host, place, mark)?);
+    let mut space = io::buffer();
+    let path = word_at(host, place, &mut space);
+    if path.is_empty() || path.len() > LONGEST {
+        let why = "a path that is empty or has more than 4000 bytes";
+        return Err(will_not(host, b"", why));
     }
-    Some(Output {
+    if is_link(host, path) {
+        let why = "a link; name the file that it leads to";
+        return Err(will_not(host, b"", why));
+    }
+    may_replace(host, path)?;
+    match create(host, path, mark) {
+        Ok(file) => Ok(Replacement { file, place, mark }),
+        Err(why) => Err(cannot(host, b"write", path, &why)),
+    }
+}
+
+// What answers are written to: the file that --to names, or standard output, which `-` stands for too. If it cannot be opened, a line says
+// so.
+pub(crate) fn open_output<'a, H: Host>(
+    host: &'a H,
+    given: &Given,
+) -> Result<Output<'a, H>, Failure> {
+    let replacement = match given.to {
+        Some(place) if !is_dash(host, place) => Some(open_replaced(host, place)?),
+        _ => None,
+    };
+    Ok(Output {
         host,
-        file,
-        place,
-        mark,
+        replacement,
         hex: given.hex,
     })
 }
 
 // Syncs the new file, closes it and gives it the path's name.
-fn rename<H: Host>(host: &H, file: H::File, name: &[u8], path: &[u8]) -> Result<(), Error> {
+fn rename<H: Host>(host: &H, file: H::File, name: &str, path: &[u8]) -> Result<(), Error> {
     file.sync_all()?;
     drop(file);
-    fs::rename(host, text_of(name)?, text_of(path)?)
-}
-
-fn remove<H: Host>(host: &H, name: &[u8]) -> Result<(), Error> {
-    fs::remove_file(host, text_of(name)?)
+    fs::rename(host, name, text_of(path)?)
 }
 
 // The new file is whole: it takes the path's name.
-fn keep<H: Host>(host: &H, file: H::File, path: &[u8], mark: u64) -> Ending {
+fn keep<H: Host>(host: &H, replacement: Replacement<H::File>) -> Result<(), Failure> {
+    let Replacement { file, place, mark } = replacement;
     let mut space = io::buffer();
-    let size = name_beside(path, mark, &mut space);
-    match rename(host, file, &space[..size], path) {
-        Ok(()) => Ending::Done,
+    let path = word_at(host, place, &mut space);
+    let mut beside = io::buffer();
+    let name = match name_beside(path, mark, &mut beside) {
+        Ok(name) => name,
+        Err(why) => return Err(cannot(host, b"write", path, &why)),
+    };
+    match rename(host, file, name, path) {
+        Ok(()) => Ok(()),
         Err(why) => {
-            cannot(host, b"write", path, &why);
-            let _ = remove(host, &space[..size]);
-            Ending::Failed
+            let failure = cannot(host, b"write", path, &why);
+            let _ = fs::remove_file(host, name);
+            Err(failure)
         }
     }
 }
 
 // The new file is not whole, and goes.
-fn discard<H: Host>(host: &H, file: H::File, path: &[u8], mark: u64) {
+fn discard<H: Host>(host: &H, replacement: Replacement<H::File>) -> Result<(), Error> {
+    let Replacement { file, place, mark } = replacement;
     let mut space = io::buffer();
-    let size = name_beside(path, mark, &mut space);
+    let mut beside = io::buffer();
     drop(file);
-    let _ = remove(host, &space[..size]);
+    let name = name_beside(word_at(host, place, &mut space), mark, &mut beside)?;
+    fs::remove_file(host, name)
 }
 
-// The end of a command that is done: what the system still held back is written now, or that fails.
-fn finish<H: Host>(output: Output<'_, H>) -> Ending {
-    let Output {
-        host,
-        file,
-        place,
-        mark,
-        hex: _,
-    } = output;
-    let Some(file) = file else {
-        return done_if(streams::finish_output(host));
-    };
-    let mut path = io::buffer();
-    let size = path_at(host, place, &mut path);
-    keep(host, file, &path[..size], mark)
-}
-
-// The end of a command that is not done.
-fn give_up<H: Host>(output: Output<'_, H>) {
-    let Output {
-        host,
-        file,
-        place,
-        mark,
-        hex: _,
-    } = output;
-    if let Some(file) = file {
-        let mut path = io::buffer();
-        let size = path_at(host, place, &mut path);
-        discard(host, file, &path[..size], mark);
-    }
-}
-
-// The end of a command that has answered and is refused.
-fn finish_refused<H: Host>(output: Output<'_, H>) -> Ending {
-    match finish(output) {
-        Ending::Done => Ending::Refused,
-        _ => Ending::Failed,
-    }
-}
-
-// Closes what answers were written to, and returns how the command ended in the end.
-pub(crate) fn close_output<H: Host>(output: Output<'_, H>, ending: Ending) -> Ending {
-    match ending {
-        Ending::Done => finish(output),
-        _ => {
-            give_up(output);
-            ending
+impl<H: Host> Output<'_, H> {
+    // The end of a command that is done: what the system still held back is written now, or that fails.
+    fn finish(self) -> Result<(), Failure> {
+        let Output {
+            host,
+            replacement,
+            hex: _,
+        } = self;
+        match replacement {
+            Some(replacement) => keep(host, replacement),
+            None => streams::finish_output(host),
         }
     }
-}
 
-// The same for a command whose refusal is its answer: what it wrote is whole.
-pub(crate) fn close_answer<H: Host>(output: Output<'_, H>, ending: Ending) -> Ending {
-    match ending {
-        Ending::Refused => finish_refused(output),
-        _ => close_output(output, ending),
+    // The end of a command that is not done.
+    fn give_up(self) {
+        let Output {
+            host,
+            replacement,
+            hex: _,
+        } = self;
+        if let Some(replacement) = replacement {
+            let _ = discard(host, replacement);
+        }
+    }
+
+    // Closes what answers were written to, and returns how the command ended in the end.
+    pub(crate) fn close(self, ended: Result<(), Failure>) -> Result<(), Failure> {
+        if ended.is_ok() {
+            return self.finish();
+        }
+        self.give_up();
+        ended
+    }
+
+    // The same for a command whose refusal is its answer: what it wrote is whole.
+    pub(crate) fn close_answer(self, ended: Result<(), Failure>) -> Result<(), Failure> {
+        if ended == Err(Failure::Refused) {
+            self.finish()?;
+            return ended;
+        }
+        self.close(ended)
     }
 }

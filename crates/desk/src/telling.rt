@@ -1,38 +1,48 @@
 // The cause of a refusal (document 02, §5): alone, on a line after the words, and in the sentence that `desk why` answers.
 ghost use Rattle.sheet.specs.Orders.{Shaped};
 
-use super::complaints::say;
-use super::options::WORDS_ROOM;
+use super::complaints::Errors;
 use super::output::Output;
-use super::refusing::{refused_if, say_refusal, say_words_refusal, tell_meaning};
+use super::refusing::{meaning_of, refused};
+use super::task::Task;
 use causes::{Cause, Difference, Field, is_of_shape};
 use gf2::degree_of;
 use listing::{CAUSE_ROOM, put_cause};
 use refusals::Refusal;
 use sheet::{Issued, polynomial_of, row_at};
-use streams::{Ending, Host, done_if};
+use std::fmt;
+use std::fmt::Write;
+use streams::{Failure, Host};
 
-// The cause alone, as the lister prints it; nothing if the number and the place say all.
-fn say_cause<H: Host>(host: &H, cause: Cause) -> bool {
-    let mut line = [0u8; CAUSE_ROOM];
-    let size = put_cause(&mut line, 0, cause);
-    say(host, &line[..size])
+impl<H: Host> Errors<'_, H> {
+    // The cause alone, as the lister prints it; nothing if the number and the place say all.
+    fn cause(&mut self, cause: Cause) -> fmt::Result {
+        let mut line = [0u8; CAUSE_ROOM];
+        let size = put_cause(&mut line, 0, cause);
+        self.bytes(&line[..size])
+    }
+
+    fn refusal_for(&mut self, refusal: Refusal, cause: Cause) -> fmt::Result {
+        self.refusal(refusal)?;
+        self.cause(cause)
+    }
 }
 
 // A refusal and its cause.
-pub(crate) fn refuse_for<H: Host>(host: &H, refusal: Refusal, cause: Cause) -> Ending {
-    refused_if(say_refusal(host, refusal) && say_cause(host, cause))
+pub(crate) fn refuse_for<H: Host>(host: &H, refusal: Refusal, cause: Cause) -> Failure {
+    refused(Errors(host).refusal_for(refusal, cause))
 }
 
-// The same for values that stand on the command line.
-pub(crate) fn refuse_words_for<H: Host>(
-    host: &H,
-    refusal: Refusal,
-    places: &[usize; WORDS_ROOM],
-    degree: u32,
-    cause: Cause,
-) -> Ending {
-    refused_if(say_words_refusal(host, refusal, places, degree) && say_cause(host, cause))
+impl<H: Host> Task<'_, H> {
+    fn say_refusal_for(&self, refusal: Refusal, degree: u32, cause: Cause) -> fmt::Result {
+        self.say_refusal(refusal, degree)?;
+        Errors(self.host()).cause(cause)
+    }
+
+    // The same for values that stand on the command line.
+    pub(crate) fn refuse_for(&self, refusal: Refusal, degree: u32, cause: Cause) -> Failure {
+        refused(self.say_refusal_for(refusal, degree, cause))
+    }
 }
 
 // The polynomial and the element that a sheet names.
@@ -53,48 +63,58 @@ fn names_of(bytes: &[u8]) -> Named
     }
 }
 
-// The same of any sheet. One that is refused for its shape names nothing that a sentence could speak of, and has zeros.
-fn names_in(bytes: &[u8]) -> Named {
+// The same of any sheet. One that is refused for its shape names nothing that a sentence could speak of.
+fn names_in(bytes: &[u8]) -> Result<Named, Refusal> {
     match sheet::read(bytes) {
         Issued::Refused(refusal) => {
             if is_of_shape(refusal.number) {
-                return Named { f: 0, element: 0 };
+                return Err(refusal);
             }
-            names_of(bytes)
+            Ok(names_of(bytes))
         }
-        Issued::Done(_) => names_of(bytes),
+        Issued::Done(_) => Ok(names_of(bytes)),
     }
 }
 
 // f and the element, after what stands before them.
-fn put_names<H: Host>(output: &mut Output<'_, H>, before: &[u8], named: Named) -> bool {
-    output.put_value(before, named.f) && output.put_value(b" and the element ", named.element)
+fn put_names<H: Host>(output: &mut Output<'_, H>, before: &str, named: Named) -> fmt::Result {
+    let f = output.shown(named.f);
+    let element = output.shown(named.element);
+    write!(output, "{before} f = {f} and the element {element}")
 }
 
-fn put_divisor<H: Host>(output: &mut Output<'_, H>, named: Named, divisor: u64) -> bool {
-    output.put_value(b"the polynomial ", divisor)
-        && output.put_value(b" divides f = ", named.f)
-        && output.put(b", and no smaller one of degree 1 or more does")
+fn put_divisor<H: Host>(output: &mut Output<'_, H>, named: Named, divisor: u64) -> fmt::Result {
+    let divisor = output.shown(divisor);
+    let f = output.shown(named.f);
+    write!(output, "the polynomial {divisor} divides f = {f}")?;
+    output.write_str(", and no smaller one of degree 1 or more does")
 }
 
-fn put_became<H: Host>(output: &mut Output<'_, H>, named: Named, element: u64) -> bool {
-    output.put_count(b"x squared ", degree_of(named.f) as u64)
-        && output.put_value(b" times modulo f = ", named.f)
-        && output.put_value(b" is ", element)
-        && output.put(b", and not x again")
+fn put_became<H: Host>(output: &mut Output<'_, H>, named: Named, element: u64) -> fmt::Result {
+    let degree = degree_of(named.f);
+    let f = output.shown(named.f);
+    let element = output.shown(element);
+    write!(
+        output,
+        "x squared {degree} times modulo f = {f} is {element}, and not x again"
+    )
 }
 
-fn put_dependency<H: Host>(output: &mut Output<'_, H>, named: Named, set: u64) -> bool {
-    output.put_value(b"the set bits of ", set)
-        && output.put_value(b" select conjugates of the element ", named.element)
-        && output.put(b" that sum to zero, and those of no smaller number above 0 do")
+fn put_dependency<H: Host>(output: &mut Output<'_, H>, named: Named, set: u64) -> fmt::Result {
+    let set = output.shown(set);
+    let element = output.shown(named.element);
+    write!(
+        output,
+        "the set bits of {set} select conjugates of the element {element}"
+    )?;
+    output.write_str(" that sum to zero, and those of no smaller number above 0 do")
 }
 
-fn put_row_name<H: Host>(output: &mut Output<'_, H>, field: Field) -> bool {
+fn name_of(field: Field) -> &'static str {
     match field {
-        Field::Conjugate => output.put(b"conjugate"),
-        Field::Inverse => output.put(b"inverse"),
-        Field::Table => output.put(b"table"),
+        Field::Conjugate => "conjugate",
+        Field::Inverse => "inverse",
+        Field::Table => "table",
     }
 }
 
@@ -102,24 +122,24 @@ fn put_difference<H: Host>(
     output: &mut Output<'_, H>,
     named: Named,
     difference: Difference,
-) -> bool {
-    let field = difference.field;
-    output.put_count(b"record ", difference.place as u64)
-        && output.put(b" has the ")
-        && put_row_name(output, field)
-        && output.put_value(b" row ", difference.stored)
-        && put_names(output, b", but f = ", named)
-        && output.put_value(b" give ", difference.right)
-        && output.put(b"; no row before it differs")
+) -> fmt::Result {
+    let place = difference.place;
+    let field = name_of(difference.field);
+    let stored = output.shown(difference.stored);
+    let right = output.shown(difference.right);
+    write!(output, "record {place} has the {field} row {stored}")?;
+    put_names(output, ", but", named)?;
+    write!(output, " give {right}; no row before it differs")
 }
 
 // The cause in words. One whose number and place say all has the meaning that every refusal has.
-fn put_reason<H: Host>(output: &mut Output<'_, H>, named: Named, cause: Cause) -> bool {
+fn put_reason<H: Host>(output: &mut Output<'_, H>, named: Named, cause: Cause) -> fmt::Result {
     match cause {
         Cause::Accepted => {
-            put_names(output, b"the sheet is the one that f = ", named) && output.put(b" give")
+            put_names(output, "the sheet is the one that", named)?;
+            output.write_str(" give")
         }
-        Cause::Refused(refusal) => tell_meaning(output, refusal.number),
+        Cause::Refused(refusal) => output.write_str(meaning_of(refusal.number)),
         Cause::Divisor(divisor) => put_divisor(output, named, divisor),
         Cause::Became(element) => put_became(output, named, element),
         Cause::Dependency(set) => put_dependency(output, named, set),
@@ -127,19 +147,28 @@ fn put_reason<H: Host>(output: &mut Output<'_, H>, named: Named, cause: Cause) -
     }
 }
 
-fn put_sentence<H: Host>(output: &mut Output<'_, H>, bytes: &[u8]) -> bool {
-    put_reason(output, names_in(bytes), causes::why(bytes)) && output.put(b"\n")
+fn put_sentence<H: Host>(output: &mut Output<'_, H>, bytes: &[u8]) -> fmt::Result {
+    match names_in(bytes) {
+        Ok(named) => put_reason(output, named, causes::why(bytes))?,
+        Err(refusal) => output.write_str(meaning_of(refusal.number))?,
+    }
+    output.write_str("\n")
 }
 
 // Why reading refuses a sheet, or that it accepts it, in one sentence.
-pub(crate) fn answer_why<H: Host>(output: &mut Output<'_, H>, bytes: &[u8]) -> Ending {
+pub(crate) fn answer_why<H: Host>(output: &mut Output<'_, H>, bytes: &[u8]) -> Result<(), Failure> {
     match sheet::read(bytes) {
-        Issued::Refused(refusal) => refused_if(
-            output.put_count(b"refused ", refusal.number as u64)
-                && output.put_count(b" ", refusal.place as u64)
-                && output.put(b": ")
-                && put_sentence(output, bytes),
-        ),
-        Issued::Done(_) => done_if(output.put(b"accepted: ") && put_sentence(output, bytes)),
+        Issued::Refused(refusal) => {
+            let number = refusal.number;
+            let place = refusal.place;
+            write!(output, "refused {number} {place}: ")?;
+            put_sentence(output, bytes)?;
+            Err(Failure::Refused)
+        }
+        Issued::Done(_) => {
+            output.put(b"accepted: ")?;
+            put_sentence(output, bytes)?;
+            Ok(())
+        }
     }
 }

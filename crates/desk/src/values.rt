@@ -6,7 +6,7 @@ use super::lines::NEWLINE;
 use super::output::Output;
 use listing::{NUMBER_ROOM, put_bytes, put_number};
 use sheet::LIST_LIMIT;
-use streams::Host;
+use streams::{Failure, Host};
 
 // Room for the lines of the longest list.
 const TEXT_ROOM: usize = LIST_LIMIT * NUMBER_ROOM;
@@ -61,7 +61,7 @@ fn put_lines(text: &mut [u8], values: &[u64], hex: bool) -> usize
 }
 
 // Writes the values, a line each, in one piece.
-pub(crate) fn put_values<H: Host>(output: &mut Output<'_, H>, values: &[u64]) -> bool
+pub(crate) fn put_values<H: Host>(output: &mut Output<'_, H>, values: &[u64]) -> Result<(), Failure>
     requires { length values.now ≤ 4096 }
 {
     let mut text = text_space();

@@ -5,40 +5,37 @@
 use gf2::LIMIT;
 use listing::LISTING_ROOM;
 use sheet::{Issued, RECORD};
-use streams::{Ending, Host, cannot, end, finish_output, read_whole, word_count, write_output};
+use streams::{
+    Ending, Failure, Host, cannot, end, finish_output, read_whole, word_count, write_output,
+};
 
-// How the run ends when the listing is written: a sheet that reading refuses is refused.
-fn ending_of(sheet: &[u8]) -> Ending {
+// Whether a sheet is refused: that is how the run ends when the listing is written.
+fn judge(sheet: &[u8]) -> Result<(), Failure> {
     match sheet::read(sheet) {
-        Issued::Refused(_) => Ending::Refused,
-        Issued::Done(_) => Ending::Done,
+        Issued::Refused(_) => Err(Failure::Refused),
+        Issued::Done(_) => Ok(()),
     }
 }
 
-fn list<H: Host>(host: &H, sheet: &[u8]) -> Ending {
+fn list<H: Host>(host: &H, sheet: &[u8]) -> Result<(), Failure> {
     let mut text = [0u8; LISTING_ROOM];
     let end = listing::listing(sheet, &mut text);
-    if write_output(host, &text[..end]) && finish_output(host) {
-        return ending_of(sheet);
-    }
-    Ending::Failed
+    write_output(host, &text[..end])?;
+    finish_output(host)?;
+    judge(sheet)
 }
 
-fn answer<H: Host>(host: &H) -> Ending {
+fn answer<H: Host>(host: &H) -> Result<(), Failure> {
     if word_count(host) > 1 {
         let _ = host.say(b"desk: the lister takes no words; write: lister < SHEET\n");
-        return Ending::BadWord;
+        return Err(Failure::BadWord);
     }
     let mut input = [0u8; RECORD * LIMIT + 1];
-    match read_whole(&mut host.reader(), &mut input) {
-        Ok(size) => list(host, &input[..size]),
-        Err(why) => {
-            cannot(host, b"read", b"standard input", &why);
-            Ending::Failed
-        }
-    }
+    let size = read_whole(&mut host.reader(), &mut input)
+        .map_err(|why| cannot(host, b"read", b"standard input", &why))?;
+    list(host, &input[..size])
 }
 
 fn main(rt: HostRuntime) {
-    end(&rt, answer(&rt));
+    end(&rt, Ending::from(answer(&rt)));
 }

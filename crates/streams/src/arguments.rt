@@ -1,5 +1,5 @@
 // The words of the command line. Word 0 is the program's name. A word is bytes: nothing says that it is UTF-8.
-ghost use Rattle.io.specs.Counts.{IsPrefixLen};
+ghost use Rattle.std.specs.Prelude.{◌≤◌, length};
 
 use std::env::FillError;
 use std::rt::Env;
@@ -7,28 +7,20 @@ use std::rt::Env;
 // Whether there is a word i.
 fn is_given<E: Env>(env: &E, i: usize) -> bool {
     let mut space = [0u8; 1];
-    match env.arg(i, &mut space) {
-        Err(FillError::NotPresent) => false,
-        _ => true,
-    }
+    !matches!(env.arg(i, &mut space), Err(FillError::NotPresent))
 }
 
 // How many words the command line has.
 pub fn word_count<E: Env>(env: &E) -> usize {
-    for i in 0..usize::MAX {
-        if !is_given(env, i) {
-            return i;
-        }
-    }
-    usize::MAX
+    (0..usize::MAX)
+        .find(|i| !is_given(env, *i))
+        .unwrap_or(usize::MAX)
 }
 
-// Puts word i at the space's front, and returns its length. A word that is not there has length 0, and so has one that is too long.
-pub fn word_at<E: Env>(env: &E, i: usize, space: &mut [u8]) -> usize
-    ensures { IsPrefixLen result space.new }
+// Puts word i into the space, and returns it. A word that is not there has no bytes, and so has one that is too long.
+pub fn word_at<'s, E: Env>(env: &E, i: usize, space: &'s mut [u8]) -> &'s [u8]
+    ensures { length result.now ≤ length space.old }
 {
-    match env.arg(i, space) {
-        Ok(size) => io::count(size as isize, space),
-        Err(_) => 0,
-    }
+    let size = env.arg(i, space).unwrap_or(0);
+    &space[..size]
 }

@@ -9,7 +9,7 @@ mod surroundings;
 mod writing;
 
 pub use arguments::{word_at, word_count};
-pub use ending::{Ending, done_if, end};
+pub use ending::{Ending, Failure, end};
 pub use reading::read_whole;
 pub use surroundings::Host;
 pub use writing::{cannot, finish_output, write_output, write_whole};

@@ -13,6 +13,7 @@ pub fn read_whole<R: Read>(input: &mut R, buffer: &mut [u8]) -> io::Result<usize
     ensures bytes { IfOk result (λ size. Consumes (R.remaining input.old) (R.remaining input.new) (take size buffer.new)) }
     ensures end { IfOk result (λ size. size < length buffer.new → IsAtEnd (R.remaining input.new)) }
 {
+    // How much a read gives is known after it, so no range has the places; and std's reader of a whole input puts it on the heap.
     let mut done: usize = 0;
     while done < buffer.len() {
         let more = input.read(&mut buffer[done..])?;

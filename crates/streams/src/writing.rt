@@ -1,7 +1,8 @@
 // Writing a text whole, and the line that says what could not be done.
-ghost use Rattle.std.specs.Prelude.{IsTrue};
+ghost use Rattle.std.specs.Prelude.{◌≡◌, OnOk, IfErr};
 ghost use Rattle.std.specs.Io.KnownBytes.{Appends};
 
+use super::ending::Failure;
 use super::surroundings::Host;
 use std::fs::{File, OpenFile};
 use std::io::{ErrorKind, Write};
@@ -16,10 +17,8 @@ const REASON_ROOM: usize = 256;
 
 // The system's own word for why. What std prints of an error has its number after that.
 fn reason_in(text: &str) -> &str {
-    match text.split_once(" (os error ") {
-        Some((word, _)) => word,
-        None => text,
-    }
+    text.split_once(" (os error ")
+        .map_or(text, |(word, _)| word)
 }
 
 // The end of the line: why, and the line end.
@@ -33,31 +32,41 @@ fn say_reason<H: Host>(host: &H, why: &io::Error) {
     let _ = host.say(b"\n");
 }
 
-// A line on standard error: what could not be done, to what, and the system's own word for why.
-pub fn cannot<H: Host>(host: &H, what: &[u8], name: &[u8], why: &io::Error) {
-    let _ = host.say(b"desk: cannot ");
-    let _ = host.say(what);
-    let _ = host.say(b" ");
-    let _ = host.say(name);
-    let _ = host.say(b": ");
+// A line on standard error: what could not be done, to what, and the system's own word for why. The run ends as failed, which is returned.
+pub fn cannot<H: Host>(host: &H, what: &[u8], name: &[u8], why: &io::Error) -> Failure
+    ensures { result ≡ Failure.Failed }
+{
+    for part in [
+        b"desk: cannot ".as_slice(),
+        what,
+        b" ".as_slice(),
+        name,
+        b": ".as_slice(),
+    ] {
+        let _ = host.say(part);
+    }
     say_reason(host, why);
+    Failure::Failed
 }
 
-// Writes all of the text and returns true. If a write fails, a line says so, and it returns false.
-pub fn write_whole<H: Host, W: Write>(host: &H, to: &mut W, name: &[u8], text: &[u8]) -> bool
-    ensures { IsTrue result → Appends (W.contents to.old) (W.contents to.new) text.now }
+// Writes all of the text. If a write fails, a line says so.
+pub fn write_whole<H: Host, W: Write>(
+    host: &H,
+    to: &mut W,
+    name: &[u8],
+    text: &[u8],
+) -> Result<(), Failure>
+    ensures whole { OnOk result (Appends (W.contents to.old) (W.contents to.new) text.now) }
+    ensures failed { IfErr result (λ why. why ≡ Failure.Failed) }
 {
-    match to.write_all(text) {
-        Ok(()) => true,
-        Err(why) => {
-            cannot(host, b"write", name, &why);
-            false
-        }
-    }
+    to.write_all(text)
+        .map_err(|why| cannot(host, b"write", name, &why))
 }
 
 // Writes all of the text to standard output, as write_whole does.
-pub fn write_output<H: Host>(host: &H, text: &[u8]) -> bool {
+pub fn write_output<H: Host>(host: &H, text: &[u8]) -> Result<(), Failure>
+    ensures { IfErr result (λ why. why ≡ Failure.Failed) }
+{
     write_whole(host, &mut io::writer(host), b"standard output", text)
 }
 
@@ -78,14 +87,9 @@ fn sync_output<F: Files>(files: &F) -> io::Result<()> {
     }
 }
 
-// Syncs standard output and returns true. If the system held something back that it now fails to write, a line says so, and it returns
-// false.
-pub fn finish_output<H: Host>(host: &H) -> bool {
-    match sync_output(host) {
-        Ok(()) => true,
-        Err(why) => {
-            cannot(host, b"write", b"standard output", &why);
-            false
-        }
-    }
+// Syncs standard output. If the system held something back that it now fails to write, a line says so.
+pub fn finish_output<H: Host>(host: &H) -> Result<(), Failure>
+    ensures { IfErr result (λ why. why ≡ Failure.Failed) }
+{
+    sync_output(host).map_err(|why| cannot(host, b"write", b"standard output", &why))
 }

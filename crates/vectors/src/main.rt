@@ -34,7 +34,7 @@ mod texts;
 mod unreduced;
 
 use std::io;
-use streams::{cannot, done_if, end, finish_output};
+use streams::{Ending, cannot, end, finish_output};
 
 fn run(rt: &impl Print) -> io::Result<()> {
     complexities::run(rt)?;
@@ -53,12 +53,9 @@ fn run(rt: &impl Print) -> io::Result<()> {
 }
 
 fn main(rt: HostRuntime) {
-    let written = match run(&rt) {
+    let ended = match run(&rt) {
         Ok(()) => finish_output(&rt),
-        Err(why) => {
-            cannot(&rt, b"write", b"standard output", &why);
-            false
-        }
+        Err(why) => Err(cannot(&rt, b"write", b"standard output", &why)),
     };
-    end(&rt, done_if(written));
+    end(&rt, Ending::from(ended));
 }
