@@ -75,7 +75,7 @@ impl<'a> Sheet<'a> {
         product_of(table, self.degree(), a, b)
     }
 
-    // The same through their byte sums.
+    // The same through their byte sums: another way to the product, and not the same code at another type, so that the two stay apart.
     fn multiplied_by_bytes(&self, a: u64, b: u64) -> u64
         requires { (a < 2 ^ record_count self.now.bytes.now) × (b < 2 ^ record_count self.now.bytes.now) }
         ensures { result ≡ through_table self.now.bytes.now a b }

@@ -33,7 +33,7 @@ pub fn number_at(sheet: &[u8], at: usize, size: usize) -> u64
     u64::from_le_bytes(bytes)
 }
 
-// The lowest size bytes of number, written at a place of the buffer.
+// The lowest size bytes of number, written at a place of the buffer. The size is any, as the promise says, and so more than `to_le_bytes` has.
 pub fn put_number(buffer: &mut [u8], at: usize, size: usize, number: u64)
     requires { at + size ≤ length buffer.old }
     ensures { buffer.new ≡ pasted buffer.old at (bytes_of size number) }

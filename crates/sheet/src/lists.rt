@@ -113,7 +113,8 @@ impl<'a> Sheet<'a> {
         convert_values(rows, into);
     }
 
-    // The list `from` of words, converted into the list `into`.
+    // The list `from` of words, converted into the list `into`. One function for both directions would be no plainer: a word asks nothing of
+    // the list, and takes the polynomial and the degree.
     fn fill_coordinates(&self, from: &[u64], into: &mut [u64])
         requires { length from.now ≡ length into.old }
         ensures { into.new ≡ map (to_normal self.now.bytes.now) from.now }
