@@ -1,5 +1,4 @@
 // A sheet that is built, beside the polynomial and the element that it is of, and what building it answered.
-use super::answers::{number, summary};
 use gf2::LIMIT;
 use refusals::Refusal;
 use sheet::{RECORD, Summary};
@@ -26,7 +25,7 @@ impl<const SIZE: usize> Built<SIZE> {
     // The bytes may be more than the sheet needs. Where building is refused they stay zero, and those are no sheet.
     pub(crate) fn new(f: u64, element: u64) -> Built<SIZE> {
         let mut bytes = [0u8; SIZE];
-        let answer = summary(sheet::build(f, element, &mut bytes));
+        let answer = sheet::build(f, element, &mut bytes);
         Built {
             f,
             element,
@@ -36,11 +35,11 @@ impl<const SIZE: usize> Built<SIZE> {
     }
 
     pub(crate) fn to_normal(&self, word: u64) -> Result<u64, Refusal> {
-        number(sheet::to_normal(&self.bytes, word))
+        sheet::to_normal(&self.bytes, word)
     }
 
     pub(crate) fn to_polynomial(&self, coordinates: u64) -> Result<u64, Refusal> {
-        number(sheet::to_polynomial(&self.bytes, coordinates))
+        sheet::to_polynomial(&self.bytes, coordinates)
     }
 }
 

@@ -1,9 +1,9 @@
 // What the check answers of a polynomial.
-use super::answers::{Shown, done};
+use super::answers::Shown;
 use std::io;
 
 fn print_check(rt: &impl Print, name: &str, f: u64) -> io::Result<()> {
-    println!(rt; "f = {name}: {}", Shown(done(field::check(f))))
+    println!(rt; "f = {name}: {}", Shown(field::check(f).map(|()| "done")))
 }
 
 pub(crate) fn run(rt: &impl Print) -> io::Result<()> {

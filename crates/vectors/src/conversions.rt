@@ -1,5 +1,5 @@
 // Conversions and a product on the sheet of 11 and 3.
-use super::answers::{Shown, number};
+use super::answers::Shown;
 use super::built::{Built, THREE};
 use std::io;
 
@@ -13,7 +13,7 @@ fn print_coordinates(rt: &impl Print, sheet: &Built<THREE>, element: u64) -> io:
 
 // The product of coordinates a and b, and its element.
 fn print_product(rt: &impl Print, sheet: &Built<THREE>, a: u64, b: u64) -> io::Result<()> {
-    let product = number(sheet::times(&sheet.bytes, a, b));
+    let product = sheet::times(&sheet.bytes, a, b);
     let element = product.and_then(|product| sheet.to_polynomial(product));
     println!(rt;
         "{sheet}: coordinates {a} times {b} give {}, which is element {}",

@@ -1,5 +1,5 @@
 // Inverses and quotients of normal coordinates on the sheets of 11 and 3 and of 19 and 8.
-use super::answers::{Shown, number};
+use super::answers::Shown;
 use super::built::{Built, FOUR, THREE};
 use std::io;
 
@@ -9,13 +9,13 @@ fn print_inverse<const SIZE: usize>(
     sheet: &Built<SIZE>,
     a: u64,
 ) -> io::Result<()> {
-    let inverse = number(sheet::inverse(&sheet.bytes, a));
+    let inverse = sheet::inverse(&sheet.bytes, a);
     println!(rt; "{sheet}, inverse of {a}: {}", Shown(inverse))
 }
 
 // The quotient of coordinates a and b.
 fn print_quotient(rt: &impl Print, sheet: &Built<THREE>, a: u64, b: u64) -> io::Result<()> {
-    let quotient = number(sheet::quotient(&sheet.bytes, a, b));
+    let quotient = sheet::quotient(&sheet.bytes, a, b);
     println!(rt; "{sheet}, {a} divided by {b}: {}", Shown(quotient))
 }
 

@@ -1,5 +1,5 @@
 // The sheet file's bytes, and sheets that lost a record.
-use super::answers::{Shown, summary};
+use super::answers::Shown;
 use super::built::{Built, THREE, TWO};
 use sheet::RECORD;
 use std::io;
@@ -15,7 +15,7 @@ fn print_record(rt: &impl Print, sheet: &Built<TWO>) -> io::Result<()> {
 
 // What reading answers of a sheet that lost a record.
 fn print_reading(rt: &impl Print, name: &str, sheet: &[u8]) -> io::Result<()> {
-    let read = summary(sheet::read(sheet)).map(|_| "done");
+    let read = sheet::read(sheet).map(|_| "done");
     println!(rt; "{name}: {}", Shown(read))
 }
 

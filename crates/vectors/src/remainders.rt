@@ -2,21 +2,15 @@
 // remainder here is a plain long division, and not the library's.
 ghost use Rattle.std.specs.Prelude.{◌≤◌, ◌<◌, ◌+◌};
 
-use super::answers::{done, number};
-use refusals::Value;
+use refusals::Refusal;
 use std::array;
 
 // How many words are tried.
 const WORDS: usize = 60;
 
-// Whether a call is done with this number.
-fn gives(answer: Value, expected: u64) -> bool {
-    number(answer).is_ok_and(|given| given == expected)
-}
-
 // Whether two calls are done with one number.
-fn agree(left: Value, right: Value) -> bool {
-    number(left).is_ok_and(|given| gives(right, given))
+fn agree(left: Result<u64, Refusal>, right: Result<u64, Refusal>) -> bool {
+    left.is_ok() && left == right
 }
 
 // A sheet on which words are tried, its polynomial f, and the degree n of that.
@@ -75,7 +69,7 @@ impl<'a> Trial<'a> {
     }
 
     // Whether a call answers of a word what it answers of the remainder.
-    fn is_as_remainder<F: Fn(u64) -> Value>(&self, word: u64, call: F) -> bool
+    fn is_as_remainder<F: Fn(u64) -> Result<u64, Refusal>>(&self, word: u64, call: F) -> bool
         requires { F.IsAlwaysCallable call }
     {
         agree(call(word), call(self.remainder(word)))
@@ -103,12 +97,10 @@ impl<'a> Trial<'a> {
 
     // Whether the element that the word's coordinates stand for is the remainder.
     pub(crate) fn return_holds(&self, word: u64) -> bool {
-        number(sheet::to_normal(self.sheet, word)).is_ok_and(|coordinates| {
-            gives(
-                sheet::to_polynomial(self.sheet, coordinates),
-                self.remainder(word),
-            )
-        })
+        let element = sheet::to_normal(self.sheet, word).and_then(
+            |coordinates| sheet::to_polynomial(self.sheet, coordinates),
+        );
+        element == Ok(self.remainder(word))
     }
 
     // Of how many words it holds, each beside another one.
@@ -132,12 +124,12 @@ impl<'a> Trial<'a> {
         let words = self.words();
         let from = &words[..LENGTH];
         let mut into = [0u64; LENGTH];
-        if done(sheet::list_to_normal(self.sheet, from, &mut into)).is_err() {
+        if sheet::list_to_normal(self.sheet, from, &mut into).is_err() {
             return 0;
         }
         from.iter()
             .zip(&into)
-            .filter(|(word, listed)| gives(sheet::to_normal(self.sheet, **word), **listed))
+            .filter(|(word, listed)| sheet::to_normal(self.sheet, **word) == Ok(**listed))
             .count()
     }
 }

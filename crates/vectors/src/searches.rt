@@ -1,13 +1,12 @@
 // The searches at f = 19.
-use super::answers::found;
 use normal::grade_number;
 use std::io;
 
 // What the search of a range answers.
 pub(crate) fn print_search(rt: &impl Print, f: u64, first: u64, last: u64) -> io::Result<()> {
     print!(rt; "f = {f}, search {first} to {last}: ")?;
-    match found(search::search(f, first, last)) {
-        Err(number) => println!(rt; "refusal {number}"),
+    match search::search(f, first, last) {
+        Err(refusal) => println!(rt; "refusal {}", refusal.fault.number()),
         Ok(None) => println!(rt; "nothing"),
         Ok(Some(best)) => println!(rt;
             "{}, complexity {}, grade {}, count {}",

@@ -1,8 +1,8 @@
 // Words that arrive unreduced (document 02, §6), on the sheets of 11 and 3 and of 19 and 8. The field calls and conversion from polynomials
 // answer for the remainder modulo f, and the return trip gives that remainder. Coordinates must still be below 2^n.
-use super::answers::{Shown, done, number};
+use super::answers::Shown;
 use super::built::{Built, FOUR, THREE};
-use refusals::Checked;
+use refusals::Refusal;
 use std::io;
 
 // How many words the lists here have.
@@ -11,9 +11,9 @@ const WORDS: usize = 6;
 // What the field calls answer of a word. The other factor is 6, unreduced too.
 fn print_operand(rt: &impl Print, f: u64, word: u64) -> io::Result<()> {
     let other = 6 ^ f;
-    let product = Shown(number(field::multiply(f, word, other)));
-    let square = Shown(number(field::square(f, word)));
-    let trace = Shown(number(field::trace(f, word)));
+    let product = Shown(field::multiply(f, word, other));
+    let square = Shown(field::square(f, word));
+    let trace = Shown(field::trace(f, word));
     println!(rt;
         "f = {f}, word {word}: times {other} gives {product}, square {square}, trace {trace}"
     )
@@ -69,8 +69,13 @@ fn print_list(rt: &impl Print, which: &str, list: &[u64]) -> io::Result<()> {
 }
 
 // What a call on a list answers, and what the lent list then holds.
-fn print_answer(rt: &impl Print, taken: &str, answer: Checked, list: &[u64]) -> io::Result<()> {
-    println!(rt; "as {taken}: {}", Shown(done(answer)))?;
+fn print_answer(
+    rt: &impl Print,
+    taken: &str,
+    answer: Result<(), Refusal>,
+    list: &[u64],
+) -> io::Result<()> {
+    println!(rt; "as {taken}: {}", Shown(answer.map(|()| "done")))?;
     print_list(rt, "the lent list holds", list)
 }
 
