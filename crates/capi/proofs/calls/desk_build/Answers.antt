@@ -7,6 +7,6 @@ use Rattle.capi.proofs.calls.desk_build.Goals as goal
 pub returns : goal.returns
 returns c =
     record {
-      answer = c.issued_out.ensures ∙ ap desk_issued c.build.ensures.report;
+      answer = c.from.ensures ∙ ap desk_issued c.build.ensures.report;
       written = c.build.ensures.written;
     }

@@ -7,6 +7,6 @@ use Rattle.capi.proofs.calls.desk_list_to_normal.Goals as goal
 pub returns : goal.returns
 returns c =
     record {
-      answer = c.checked_out.ensures ∙ ap desk_value c.list_to_normal.ensures.report;
+      answer = c.from.ensures ∙ ap desk_value c.list_to_normal.ensures.report;
       written = c.list_to_normal.ensures.written;
     }

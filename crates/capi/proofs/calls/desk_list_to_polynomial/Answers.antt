@@ -7,6 +7,6 @@ use Rattle.capi.proofs.calls.desk_list_to_polynomial.Goals as goal
 pub returns : goal.returns
 returns c =
     record {
-      answer = c.checked_out.ensures ∙ ap desk_value c.list_to_polynomial.ensures.report;
+      answer = c.from.ensures ∙ ap desk_value c.list_to_polynomial.ensures.report;
       written = c.list_to_polynomial.ensures.written;
     }

@@ -5,4 +5,4 @@ use Rattle.capi.specs.Answers.{desk_issued}
 use Rattle.capi.proofs.calls.desk_read.Goals as goal
 
 pub returns : goal.returns
-returns c = c.issued_out.ensures ∙ ap desk_issued c.read.ensures.report
+returns c = c.from.ensures ∙ ap desk_issued c.read.ensures.report

@@ -4,4 +4,4 @@ use mathlib.Core.Path.{◌∙◌}
 use Rattle.capi.proofs.calls.desk_search.Goals as goal
 
 pub returns : goal.returns
-returns c = c.found_out.ensures ∙ rw (c.search.ensures.report, c.search.ensures.answer)
+returns c = c.from.ensures ∙ rw (c.search.ensures.report, c.search.ensures.answer)

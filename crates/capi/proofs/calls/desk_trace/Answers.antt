@@ -5,4 +5,4 @@ use Rattle.capi.specs.Answers.{desk_value}
 use Rattle.capi.proofs.calls.desk_trace.Goals as goal
 
 pub returns : goal.returns
-returns c = c.value_out.ensures ∙ ap desk_value c.trace.ensures.report
+returns c = c.from.ensures ∙ ap desk_value c.trace.ensures.report

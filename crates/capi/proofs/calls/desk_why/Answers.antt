@@ -5,4 +5,4 @@ use Rattle.capi.specs.Answers.{desk_cause}
 use Rattle.capi.proofs.calls.desk_why.Goals as goal
 
 pub returns : goal.returns
-returns c = c.cause_out.ensures ∙ ap desk_cause c.why.ensures.report
+returns c = c.from.ensures ∙ ap desk_cause c.why.ensures.report

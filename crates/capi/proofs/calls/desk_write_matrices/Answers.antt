@@ -7,6 +7,6 @@ use Rattle.capi.proofs.calls.desk_write_matrices.Goals as goal
 pub returns : goal.returns
 returns c =
     record {
-      answer = c.issued_out.ensures ∙ ap desk_issued c.write_matrices.ensures.report;
+      answer = c.from.ensures ∙ ap desk_issued c.write_matrices.ensures.report;
       written = c.write_matrices.ensures.written;
     }

@@ -5,4 +5,4 @@ use Rattle.capi.specs.Answers.{desk_word}
 use Rattle.capi.proofs.typed.desk_number_of.Goals as goal
 
 pub returns : goal.returns
-returns c = c.word_out.ensures ∙ ap desk_word c.number.ensures
+returns c = c.from.ensures ∙ ap desk_word c.number.ensures

@@ -1,5 +1,6 @@
 -- `search::walking::is_normal` meets its contract: the basis tells.
 -- Assumes nothing.
+use Rattle.std.proofs.Common.{◌∙◌}
 use Rattle.elements.specs.Built.{built_normal}
 use Rattle.search.proofs.walking.is_normal.Goals as goal
 
@@ -11,4 +12,4 @@ build_basis-requires c =
 pub returns : goal.returns
 returns c =
     let s = c.args.m.now.squares.now in
-    built_normal s.f s.n c.args.a c.build_basis.result c.build_basis.ensures
+    c.is_ok.ensures.value ∙ built_normal s.f s.n c.args.a c.build_basis.result c.build_basis.ensures

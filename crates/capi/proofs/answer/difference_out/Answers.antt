@@ -1,8 +1,0 @@
--- `capi::answer::difference_out` meets its contract: the fields of the difference, and the number of its field.
--- Assumes nothing.
-use Rattle.causes.specs.Causes.{cause_report}
-use Rattle.capi.proofs.answer.difference_out.Goals as goal
-
-pub returns : goal.returns
-unfolding cause_report
-returns c = rw c.from.ensures
