@@ -11,7 +11,7 @@ ghost use Rattle.capi.specs.Answers.{desk_value, desk_issued, desk_found, desk_c
 use causes::{Cause, Difference};
 use normal::grade_number;
 use refusals::Refusal;
-use search::Best;
+use search::Search;
 use sheet::Summary;
 
 // The answer of a call that has one value, or none: then the value is 0.
@@ -146,12 +146,14 @@ fn not_found(number: u64) -> DeskFound
 }
 
 // The answer of the search.
-impl From<Result<Option<Best>, Refusal>> for DeskFound {
+impl From<Search> for DeskFound {
     ghost from_gives = { λ answer out. out ≡ desk_found (found_flag answer) (case_report answer) };
 
-    fn from(answer: Result<Option<Best>, Refusal>) -> DeskFound {
+    fn from(answer: Search) -> DeskFound {
         match answer {
-            Ok(Some(best)) => DeskFound {
+            Search::Refused(fault) => not_found(fault.number() as u64),
+            Search::Nothing => not_found(0),
+            Search::Found(best) => DeskFound {
                 number: 0,
                 found: 1,
                 element: best.element,
@@ -159,8 +161,6 @@ impl From<Result<Option<Best>, Refusal>> for DeskFound {
                 grade: grade_number(best.grade),
                 count: best.count,
             },
-            Ok(None) => not_found(0),
-            Err(refusal) => not_found(refusal.fault.number() as u64),
         }
     }
 }

@@ -4,17 +4,18 @@ use Rattle.std.specs.Prelude.{◌≡◌, Bool, false}
 use Rattle.std.proofs.Common.{sym, ◌∙◌, arith}
 use Rattle.std.proofs.Math.Path.{ap, ap₂}
 use Prim.Native.Nat.{ℕ, suc, ◌+◌, ◌-◌, ◌≤◌, ◌<◌}
-use Rattle.search.specs.Search.{Search, normal_leader, joined, candidate_of, walked, ranged, count_of}
+use Rattle.search.specs.Search.{normal_leader, joined, candidate_of, walked, ranged, count_of}
 use Rattle.search.specs.Joined.{joined-nothing, nothing-joined}
 use Rattle.search.proofs.Joined.{joined_assoc, joined-count-le}
 use Rattle.search.specs.Walks.{candidate_none, candidate_count-le}
 use Rattle.search.proofs.Walks.{walked_none, walked_next, walked_cut}
+use Rattle.search.specs.declared.answer.Search.{Search}
+use Rattle.search.specs.declared.answer.Search.TheVariants.{Nothing}
 use Rattle.search.specs.Begun.{FirstFrom}
-use Rattle.std.specs.Prelude.{Ok, None}
 
 -- ---- elements that add nothing
 
-pub walked_start : (f n first : ℕ) → walked f n first (first - first) ≡ Ok None
+pub walked_start : (f n first : ℕ) → walked f n first (first - first) ≡ Nothing
 walked_start f n first = let z : first - first ≡ 0 = omega arith in rw z (walked_none f n first)
 
 module _ (f n first a : ℕ) (h : first ≤ a) where
@@ -25,12 +26,12 @@ module _ (f n first a : ℕ) (h : first ≤ a) where
       let t : first + (a - first) ≡ a = omega arith in
       ap (walked f n first) s ∙ walked_next f n first (a - first) ∙ ap (λ (x : ℕ). joined (walked f n first (a - first)) (candidate_of f n x)) t
 
-  pub first_turn : walked f n first (a - first) ≡ Ok None → normal_leader f n a ≡ false → walked f n first (a + 1 - first) ≡ Ok None
+  pub first_turn : walked f n first (a - first) ≡ Nothing → normal_leader f n a ≡ false → walked f n first (a + 1 - first) ≡ Nothing
   unfolding joined
   first_turn e p = walked_to ∙ ap₂ joined e (candidate_none f n a p)
 
   -- from a on to the next that passes
-  walked_skip : (r : ℕ) → a ≤ r → walked f n a (r - a) ≡ Ok None → walked f n first (r - first) ≡ walked f n first (a - first)
+  walked_skip : (r : ℕ) → a ≤ r → walked f n a (r - a) ≡ Nothing → walked f n first (r - first) ≡ walked f n first (a - first)
   walked_skip r l e =
       let s : r - first ≡ (a - first) + (r - a) = omega arith in
       let t : first + (a - first) ≡ a = omega arith in
@@ -41,7 +42,7 @@ module _ (f n first a : ℕ) (h : first ≤ a) where
 -- ---- up to the first
 
 module _ (f n first last a r : ℕ) (h : first ≤ a) (t : ℕ → Bool) (next : FirstFrom f n t a last r) where
-  pub first_skip : walked f n first (a - first) ≡ Ok None → walked f n first (r - first) ≡ Ok None
+  pub first_skip : walked f n first (a - first) ≡ Nothing → walked f n first (r - first) ≡ Nothing
   first_skip e = walked_skip f n first a h r next.since next.none ∙ e
 
   pub next_skip : (held x : Search) → x ≡ joined held (walked f n first (a - first)) → x ≡ joined held (walked f n first (r - first))

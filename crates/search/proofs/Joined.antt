@@ -3,11 +3,12 @@
 use Rattle.std.specs.Prelude.{◌≡◌, refl, ◌⊎◌, Bool, true, false, ℕ, ◌+◌, ◌≤◌, ◌<◌}
 use Rattle.std.proofs.Common.{sym, ap, ◌∙◌, inl, inr, ⊎_elim, add_assoc, add-zero, zero-add, arith}
 use Rattle.gf2.specs.Truth.{bool_cases}
-use Rattle.search.specs.Search.{Search, with_count, better, joined, Answered, nothing, found, count_of}
+use Rattle.search.specs.Search.{with_count, better, joined, Answered, nothing, found, count_of}
 use Rattle.search.specs.Preceding.{precedes-means, precedes_trans, precedes_neither}
 use Rattle.search.specs.declared.answer.Best.{Best}
+use Rattle.search.specs.declared.answer.Search.{Search}
+use Rattle.search.specs.declared.answer.Search.TheVariants.{Refused, Nothing, Found}
 use Rattle.search.specs.Joined.{before, better-left}
-use Rattle.std.specs.Prelude.{Ok, Err, Some, None}
 
 -- ---- found records
 
@@ -60,17 +61,17 @@ better_assoc x y z = go (bool_cases (before y x)) (bool_cases (before z y)) (boo
 
 pub joined_assoc : (x y z : Search) → joined (joined x y) z ≡ joined x (joined y z)
 unfolding joined
-joined_assoc x y (Err k) = refl
-joined_assoc x y (Ok None) = refl
-joined_assoc x (Err k) (Ok (Some z)) = refl
-joined_assoc x (Ok None) (Ok (Some z)) = refl
-joined_assoc (Err k) (Ok (Some y)) (Ok (Some z)) = refl
-joined_assoc (Ok None) (Ok (Some y)) (Ok (Some z)) = refl
-joined_assoc (Ok (Some x)) (Ok (Some y)) (Ok (Some z)) = ap (λ (b : Best). Ok (Some b)) (better_assoc x y z)
+joined_assoc x y (Refused k) = refl
+joined_assoc x y Nothing = refl
+joined_assoc x (Refused k) (Found z) = refl
+joined_assoc x Nothing (Found z) = refl
+joined_assoc (Refused k) (Found y) (Found z) = refl
+joined_assoc Nothing (Found y) (Found z) = refl
+joined_assoc (Found x) (Found y) (Found z) = ap Found (better_assoc x y z)
 
-pub joined-right : (x y : Best) → y.complexity < x.complexity → joined (Ok (Some x)) (Ok (Some y)) ≡ Ok (Some (with_count y (x.count + y.count)))
+pub joined-right : (x y : Best) → y.complexity < x.complexity → joined (Found x) (Found y) ≡ Found (with_count y (x.count + y.count))
 unfolding joined
-joined-right x y h = ap (λ (b : Best). Ok (Some b)) (better-right x y ((precedes-means y.complexity y.element x.complexity x.element).1 (inl h)))
+joined-right x y h = ap Found (better-right x y ((precedes-means y.complexity y.element x.complexity x.element).1 (inl h)))
 
 -- ---- counts
 
@@ -83,8 +84,8 @@ joined-count (found x) (found y) = better-count x y
 -- whatever the two are
 pub joined-count-le : (x y : Search) → count_of (joined x y) ≤ count_of x + count_of y
 unfolding joined count_of
-joined-count-le x (Err k) = omega arith
-joined-count-le x (Ok None) = omega arith
-joined-count-le (Err k) (Ok (Some y)) = omega arith
-joined-count-le (Ok None) (Ok (Some y)) = omega arith
-joined-count-le (Ok (Some x)) (Ok (Some y)) = omega (arith, better-count x y)
+joined-count-le x (Refused k) = omega arith
+joined-count-le x Nothing = omega arith
+joined-count-le (Refused k) (Found y) = omega arith
+joined-count-le Nothing (Found y) = omega arith
+joined-count-le (Found x) (Found y) = omega (arith, better-count x y)

@@ -14,14 +14,15 @@ use native.Mathlib.Omega.{arith}
 use Rattle.gf2.specs.Numbers.{order}
 use Rattle.gf2.specs.Truth.{bool_cases, not_both, not_true_false}
 use Rattle.normal.specs.declared.grade.Grade.{Grade}
-use Rattle.search.specs.Search.{Search, normal_leader, complexity_at, grade_at, found_by, alone, precedes, with_count, joined, candidate_of, walked, ranged, Answered, nothing, found, count_of, counted, Named}
+use Rattle.search.specs.Search.{normal_leader, complexity_at, grade_at, found_by, alone, precedes, with_count, joined, candidate_of, walked, ranged, Answered, nothing, found, count_of, counted, Named}
 use Rattle.search.specs.Preceding.{not_precedes, precedes_trans, precedes_self}
 use Rattle.search.specs.Joined.{before, better-left, joined-nothing}
 use Rattle.search.proofs.Joined.{better-right}
 use Rattle.search.specs.declared.answer.Best.{Best}
+use Rattle.search.specs.declared.answer.Search.{Search}
+use Rattle.search.specs.declared.answer.Search.TheVariants.{Nothing, Found}
 use Rattle.search.specs.Walks.{candidate_is, candidate_none}
 use Rattle.search.proofs.Walks.{ranged-count, ranged_answered}
-use Rattle.std.specs.Prelude.{Ok, Some, None}
 
 record Names (f n first stop : ℕ) (x : Best) : Type 0 where
   pub from : first ≤ x.element
@@ -34,8 +35,8 @@ record Names (f n first stop : ℕ) (x : Best) : Type 0 where
 
 -- "nothing, when no normal leader lies in the range"
 data Answers (f n first stop : ℕ) : Search → Type 0 where
-  none : ((a : ℕ) → first ≤ a → a < stop → normal_leader f n a ≡ true → ⊥) → Answers f n first stop (Ok None)
-  best : (x : Best) → Names f n first stop x → Answers f n first stop (Ok (Some x))
+  none : ((a : ℕ) → first ≤ a → a < stop → normal_leader f n a ≡ true → ⊥) → Answers f n first stop Nothing
+  best : (x : Best) → Names f n first stop x → Answers f n first stop (Found x)
 
 -- one more element
 module _ (f n first m : ℕ) (h : first ≤ m) where
@@ -75,7 +76,7 @@ module _ (f n first m : ℕ) (h : first ≤ m) where
           least = λ a p l t. ⊎_elim (λ (u : a < m). all a p u t) (λ (u : a ≡ m). rw u (precedes_self (complexity_at f n m) m)) (below_next a l);
         }
 
-    joined-here : {w : Search} → Answers f n first m w → Answers f n first (suc m) (joined w (Ok (Some here)))
+    joined-here : {w : Search} → Answers f n first m w → Answers f n first (suc m) (joined w (Found here))
     unfolding joined found_by
     joined-here (none empty) = best here (taken 1 (λ a p u t. absurd (empty a p u t)))
     joined-here (best x s) =
@@ -135,11 +136,11 @@ module _ (f n first last : ℕ) where
       best-same x y e c g (sym k)
 
   -- what is found has the complexity and the grade of its own element
-  pub ranged-own : (x : Best) → ranged f n first last ≡ Ok (Some x) → (x.complexity ≡ complexity_at f n x.element) × (x.grade ≡ grade_at f n x.element)
+  pub ranged-own : (x : Best) → ranged f n first last ≡ Found x → (x.complexity ≡ complexity_at f n x.element) × (x.grade ≡ grade_at f n x.element)
   unfolding ranged
   ranged-own x e = go (rw e at (walked_answers f n first (suc last - first)))
     where
-      go : Answers f n first (first + (suc last - first)) (Ok (Some x)) → (x.complexity ≡ complexity_at f n x.element) × (x.grade ≡ grade_at f n x.element)
+      go : Answers f n first (first + (suc last - first)) (Found x) → (x.complexity ≡ complexity_at f n x.element) × (x.grade ≡ grade_at f n x.element)
       go (best y s) = (s.ones, s.graded)
 
   module _ (h : first ≤ last) where
@@ -149,20 +150,20 @@ module _ (f n first last : ℕ) where
         let l : first ≤ suc last = omega arith in
         rw (add-sub_of_le l) at (walked_answers f n first (suc last - first))
 
-    pub ranged-nothing : (ranged f n first last ≡ Ok None) ↔ ((a : ℕ) → first ≤ a → a ≤ last → normal_leader f n a ≡ true → ⊥)
+    pub ranged-nothing : (ranged f n first last ≡ Nothing) ↔ ((a : ℕ) → first ≤ a → a ≤ last → normal_leader f n a ≡ true → ⊥)
     ranged-nothing = (λ e. met (rw e at ranged_answers), λ empty. only empty ranged_answers)
       where
-        met : Answers f n first (suc last) (Ok None) → (a : ℕ) → first ≤ a → a ≤ last → normal_leader f n a ≡ true → ⊥
+        met : Answers f n first (suc last) Nothing → (a : ℕ) → first ≤ a → a ≤ last → normal_leader f n a ≡ true → ⊥
         met (none empty) a p l t = empty a p (omega arith) t
 
-        only : {w : Search} → ((a : ℕ) → first ≤ a → a ≤ last → normal_leader f n a ≡ true → ⊥) → Answers f n first (suc last) w → w ≡ Ok None
+        only : {w : Search} → ((a : ℕ) → first ≤ a → a ≤ last → normal_leader f n a ≡ true → ⊥) → Answers f n first (suc last) w → w ≡ Nothing
         only empty (none _) = refl
         only empty (best x s) = absurd (empty x.element s.from (omega (arith, s.below)) s.leads)
 
-    pub ranged-named : (x : Best) → ranged f n first last ≡ Ok (Some x) → Named f n first last x
+    pub ranged-named : (x : Best) → ranged f n first last ≡ Found x → Named f n first last x
     ranged-named x e = go (rw e at ranged_answers)
       where
-        go : Answers f n first (suc last) (Ok (Some x)) → Named f n first last x
+        go : Answers f n first (suc last) (Found x) → Named f n first last x
         go (best y s) =
             record {
               from = s.from;
@@ -182,11 +183,11 @@ module _ (f n first last : ℕ) where
 
     -- "found, with the element, its complexity, its grade and the count of normal leaders in the range"
     pub ranged-found : (x : Best)
-        → (ranged f n first last ≡ Ok (Some x)) ↔ (Named f n first last x × (x.count ≡ counted first (suc last - first) (normal_leader f n)))
+        → (ranged f n first last ≡ Found x) ↔ (Named f n first last x × (x.count ≡ counted first (suc last - first) (normal_leader f n)))
     unfolding count_of
     ranged-found x = (λ e. (ranged-named x e, sym (ap count_of e) ∙ ranged-count f n first last), λ s. go (ranged f n first last) refl s.0 s.1 (ranged_answered f n first last))
       where
         go : (w : Search) → ranged f n first last ≡ w → Named f n first last x → x.count ≡ counted first (suc last - first) (normal_leader f n) → Answered w
-            → ranged f n first last ≡ Ok (Some x)
+            → ranged f n first last ≡ Found x
         go w e s k nothing = absurd (ranged-nothing.0 e x.element s.from s.upto s.leads)
-        go w e s k (found y) = e ∙ ap (λ (b : Best). Ok (Some b)) (named-same y x (ranged-named y e) s (k ∙ sym (ranged-count f n first last) ∙ ap count_of e))
+        go w e s k (found y) = e ∙ ap Found (named-same y x (ranged-named y e) s (k ∙ sym (ranged-count f n first last) ∙ ap count_of e))

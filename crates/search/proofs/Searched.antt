@@ -9,7 +9,7 @@ use Rattle.gf2.specs.Truth.{bool_cases}
 use Rattle.field.specs.Accepted.{degree_outside, Accepted}
 use Rattle.refusals.specs.Verdicts.{Verdict, clear, refuse, first_of}
 use Rattle.field.specs.Refusals.{too_large_lem, field_order}
-use Rattle.refusals.specs.Answers.{refusal_at, answer_of}
+use Rattle.refusals.specs.Answers.{answer_of}
 use Rattle.field.specs.Orders.{small-enough}
 use Rattle.field.specs.Checked.{field_accepts}
 use Rattle.search.specs.Search.{complexity_at, grade_at, joined, ranged}
@@ -18,7 +18,7 @@ use Rattle.search.proofs.Walks.{ranged_cut}
 use Rattle.search.proofs.Named.{ranged-own}
 use Rattle.search.proofs.Orders.{search-outside, search-last, search-past}
 use Rattle.search.specs.declared.answer.Best.{Best}
-use Rattle.std.specs.Prelude.{Ok, Err, Some}
+use Rattle.search.specs.declared.answer.Search.TheVariants.{Refused, Found}
 use Rattle.refusals.specs.declared.fault.Fault.{Fault}
 use Rattle.refusals.specs.declared.fault.Fault.TheVariants as faults
 
@@ -40,17 +40,17 @@ unfolding answer_of
 accepted-answer f s first last h l =
     answer-past f first last s.in_range h l ∙ rw ((field_accepts f s.in_range).1 s)
 
-answer-refused : (f first last : ℕ) (k : Fault) → first_of (search_order f first last) ≡ refuse k 0 → search_answer f first last ≡ Err (refusal_at k 0)
+answer-refused : (f first last : ℕ) (k : Fault) → first_of (search_order f first last) ≡ refuse k 0 → search_answer f first last ≡ Refused k
 unfolding search_answer answer_of
 answer-refused f first last k e = rw e
 
 -- what the call finds has the complexity and the grade of its own element
-pub answer-own : (f first last : ℕ) (x : Best) → search_answer f first last ≡ Ok (Some x)
+pub answer-own : (f first last : ℕ) (x : Best) → search_answer f first last ≡ Found x
     → (x.complexity ≡ complexity_at f (degree f) x.element) × (x.grade ≡ grade_at f (degree f) x.element)
 unfolding search_answer answer_of
 answer-own f first last x = go (first_of (search_order f first last))
   where
-    go : (v : Verdict) → search_of v (ranged f (degree f) first last) ≡ Ok (Some x)
+    go : (v : Verdict) → search_of v (ranged f (degree f) first last) ≡ Found x
         → (x.complexity ≡ complexity_at f (degree f) x.element) × (x.grade ≡ grade_at f (degree f) x.element)
     go clear e = ranged-own f (degree f) first last x e
     go (refuse k p) e = let z : ◌≡◌ {A = ℕ} 0 1 = cc in absurd (omega arith)

@@ -8,13 +8,13 @@ use Rattle.std.proofs.Math.Nat.{add-zero, add-suc}
 use Rattle.search.specs.Search.{normal_leader, joined, candidate_of, walked, ranged, Answered, nothing, count_of, counted}
 use Rattle.search.specs.Joined.{joined-nothing, joined_answered}
 use Rattle.search.proofs.Joined.{joined_assoc, joined-count}
+use Rattle.search.specs.declared.answer.Search.TheVariants.{Nothing}
 use Rattle.search.specs.Walks.{candidate_answered, candidate_count}
-use Rattle.std.specs.Prelude.{Ok, None}
 
 -- ---- the walk
 
 module _ (f n first : ℕ) where
-  pub walked_none : walked f n first 0 ≡ Ok None
+  pub walked_none : walked f n first 0 ≡ Nothing
   unfolding walked
   walked_none = refl
 

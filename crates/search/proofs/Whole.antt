@@ -11,7 +11,7 @@ use Rattle.search.specs.Leaders.{leader_exists, leader-normal}
 use Rattle.search.specs.Walks.{normal-leader}
 use Rattle.search.proofs.Named.{ranged-named, ranged-nothing}
 use Rattle.search.specs.declared.answer.Best.{Best}
-use Rattle.std.specs.Prelude.{Ok, Some, None}
+use Rattle.search.specs.declared.answer.Search.TheVariants.{Nothing, Found}
 
 module _ (f n : ℕ) (deg : Degree f n) (big : 2 ≤ n) (returns : squared f n n 2 ≡ 2) (a : ℕ) (ha : a < 2 ^ n) (e : normal f n a ≡ true) where
   -- the leader of a normal element: normal, of the same complexity, and no larger
@@ -22,7 +22,7 @@ module _ (f n : ℕ) (deg : Degree f n) (big : 2 ≤ n) (returns : squared f n n
       let t = leader-normal f n deg big returns a ha s.0 s.1 e in
       (s.0, normal-leader f n s.0 s.1.leads t.0, ap complexity t.1, s.1.least)
 
-  pub whole-best : (x : Best) → ranged f n 0 (2 ^ n - 1) ≡ Ok (Some x)
+  pub whole-best : (x : Best) → ranged f n 0 (2 ^ n - 1) ≡ Found x
       → (x.complexity ≤ complexity_at f n a) × (complexity_at f n a ≡ x.complexity → x.element ≤ a)
   whole-best x p =
       let s = ranged-named f n 0 (2 ^ n - 1) (omega arith) x p in
@@ -32,7 +32,7 @@ module _ (f n : ℕ) (deg : Degree f n) (big : 2 ≤ n) (returns : squared f n n
         λ q. omega (arith, s.smallest d.0 (omega arith) u d.1 (d.2 ∙ q), d.3),
       )
 
-  pub whole-nothing : ranged f n 0 (2 ^ n - 1) ≡ Ok None → ⊥
+  pub whole-nothing : ranged f n 0 (2 ^ n - 1) ≡ Nothing → ⊥
   whole-nothing p =
       let d = leading in
       (ranged-nothing f n 0 (2 ^ n - 1) (omega arith)).0 p d.0 (omega arith) (omega (arith, d.3)) d.1

@@ -10,10 +10,12 @@ use Rattle.std.specs.Prelude.{List, [], ◌∷◌, ◌++◌, ℕ, ltb}
 use Rattle.gf2.specs.Poly.{degree}
 use Rattle.refusals.specs.Verdicts.{fault_number, Rule, Verdict, clear, refuse, first_of}
 use Rattle.refusals.specs.Answers.{answer_of}
+use Rattle.refusals.specs.declared.answer.Refusal.{Refusal}
 use Rattle.field.specs.Refusals.{operand_order, field_order}
 use Rattle.normal.specs.Grades.{grade_number}
-use Rattle.search.specs.Search.{Search, ranged}
-use Rattle.std.specs.Prelude.{Ok, Err, Some, None}
+use Rattle.search.specs.Search.{ranged}
+use Rattle.search.specs.declared.answer.Search.{Search}
+use Rattle.search.specs.declared.answer.Search.TheVariants.{Refused, Nothing, Found}
 use Rattle.refusals.specs.declared.fault.Fault.TheVariants as faults
 
 -- "first of the range is greater than last"
@@ -26,7 +28,7 @@ search_order f first last = operand_order f (first ∷ last ∷ []) ++ (range_ru
 
 -- "refused with a number", or what the walk gives
 abbrev pub search_of : Verdict → Search → Search
-search_of v x = answer_of Err x v
+search_of v x = answer_of (λ (r : Refusal). Refused r.fault) x v
 
 unfoldable pub search_answer : (f first last : ℕ) → Search
 search_answer f first last = search_of (first_of (search_order f first last)) (ranged f (degree f) first last)
@@ -46,9 +48,9 @@ refused_report k = record { number = k; element = 0; complexity = 0; grade = 0; 
 
 -- "refused with a number"; "nothing counts as 0"; "found, with the element, its complexity, its grade and the count"
 unfoldable pub case_report : Search → SearchReport
-case_report (Err r) = refused_report (fault_number r.fault)
-case_report (Ok None) = record { number = 0; element = 0; complexity = 0; grade = 0; count = 0 }
-case_report (Ok (Some x)) =
+case_report (Refused k) = refused_report (fault_number k)
+case_report Nothing = record { number = 0; element = 0; complexity = 0; grade = 0; count = 0 }
+case_report (Found x) =
     record { number = 0; element = x.element; complexity = x.complexity; grade = grade_number x.grade; count = x.count }
 
 unfoldable pub report_of : Verdict → Search → SearchReport

@@ -20,9 +20,10 @@ use Rattle.gf2.specs.Truth.{bool_cases, and_parts}
 use Rattle.field.specs.Field.{trace}
 use Rattle.elements.specs.Fields.{FieldOf}
 use Rattle.elements.specs.Traces.{no_trace_not_normal}
-use Rattle.search.specs.Search.{Search, leader, normal_leader, joined, walked}
+use Rattle.search.specs.Search.{leader, normal_leader, joined, walked}
 use Rattle.search.specs.Walks.{no_leader, not_normal}
-use Rattle.std.specs.Prelude.{Ok}
+use Rattle.search.specs.declared.answer.Search.{Search}
+use Rattle.search.specs.declared.answer.Search.TheVariants.{Nothing}
 
 pub record RangeOf (f n first last : ℕ) : Type 0 where
   pub of_field : FieldOf f n
@@ -39,7 +40,7 @@ trace_leader f n a = eqb (trace f n a) 1 && leader f n a
 pub record FirstFrom (f n : ℕ) (t : ℕ → Bool) (first last r : ℕ) : Type 0 where
   pub since : first ≤ r
   pub upto : r ≤ last + 1
-  pub none : walked f n first (r - first) ≡ Ok None
+  pub none : walked f n first (r - first) ≡ Nothing
   pub passes : r ≤ last → t r ≡ true
 
 abbrev pub FirstOf : (f n : ℕ) (t : ℕ → Bool) (first last : ℕ) → Option ℕ → Type 0

@@ -7,10 +7,11 @@
 use Rattle.std.specs.Prelude.{◌≡◌, refl, Bool, false, ◌+◌, ◌≤◌, ◌<◌}
 use Rattle.std.proofs.Common.{ap, ⊎_elim, arith}
 use Rattle.gf2.specs.Truth.{not_true_false}
-use Rattle.search.specs.Search.{Search, precedes, with_count, better, joined, Answered, nothing, found}
+use Rattle.search.specs.Search.{precedes, with_count, better, joined, Answered, nothing, found}
 use Rattle.search.specs.Preceding.{precedes-means}
 use Rattle.search.specs.declared.answer.Best.{Best}
-use Rattle.std.specs.Prelude.{Ok, Err, Some, None}
+use Rattle.search.specs.declared.answer.Search.{Search}
+use Rattle.search.specs.declared.answer.Search.TheVariants.{Refused, Nothing, Found}
 
 -- ---- found records
 
@@ -23,21 +24,21 @@ better-left x y e = rw e
 
 -- ---- answers
 
-pub joined-nothing : (x : Search) → joined x (Ok None) ≡ x
+pub joined-nothing : (x : Search) → joined x Nothing ≡ x
 unfolding joined
 joined-nothing x = refl
 
-pub nothing-joined : (x : Search) → joined (Ok None) x ≡ x
+pub nothing-joined : (x : Search) → joined Nothing x ≡ x
 unfolding joined
-nothing-joined (Err k) = refl
-nothing-joined (Ok None) = refl
-nothing-joined (Ok (Some x)) = refl
+nothing-joined (Refused k) = refl
+nothing-joined Nothing = refl
+nothing-joined (Found x) = refl
 
 -- the one of fewer ones; the left one on a tie, where its element is the smaller, as it is in adjoining ranges
-pub joined-left : (x y : Best) → x.complexity ≤ y.complexity → x.element ≤ y.element → joined (Ok (Some x)) (Ok (Some y)) ≡ Ok (Some (with_count x (x.count + y.count)))
+pub joined-left : (x y : Best) → x.complexity ≤ y.complexity → x.element ≤ y.element → joined (Found x) (Found y) ≡ Found (with_count x (x.count + y.count))
 unfolding joined
 joined-left x y h l =
-    ap (λ (b : Best). Ok (Some b))
+    ap Found
     (better-left x y (not_true_false (before y x) (λ p. ⊎_elim
     (λ (u : y.complexity < x.complexity). omega arith)
     (λ (u : (y.complexity ≡ x.complexity) × (y.element < x.element)). omega (arith, u.1))

@@ -1,6 +1,7 @@
 -- One leader joined to what is held, as far as it is decided: its count of ones has to be exact only up to a bound that what is held gives.
 --
 --   unbounded                the largest number of 32 bits, which no count passes
+--   as_answer held           the answer that a walk holds: found, or nothing; it is no refusal
 --   bound_of w                how many ones a table may have and still be the best beside w
 --   Joinable f n w a x       a is a leader of which x is decided, as far as joining it to w needs, and one more can be counted
 --
@@ -22,22 +23,27 @@ use Rattle.elements.specs.Ones.{Within}
 use Rattle.elements.specs.Decided.{Decides}
 use Rattle.std.specs.declared.option.Option.{Option}
 use Rattle.std.specs.declared.option.Option.TheVariants.{None, Some}
-use Rattle.search.specs.Search.{Search, leader, complexity_at, found_by, better, joined, candidate_of, count_of}
+use Rattle.search.specs.Search.{leader, complexity_at, found_by, better, joined, candidate_of, count_of}
 use Rattle.search.specs.Preceding.{Precedes, precedes-means}
 use Rattle.search.specs.Joined.{before, better-left, joined-nothing}
 use Rattle.search.specs.Walks.{candidate_is, candidate_none, normal-leader, not_normal}
+use Rattle.refusals.specs.declared.fault.Fault.{Fault}
 use Rattle.search.specs.declared.answer.Best.{Best}
-use Rattle.refusals.specs.declared.answer.Refusal.{Refusal}
-use Rattle.std.specs.Prelude.{Ok, Err}
+use Rattle.search.specs.declared.answer.Search.{Search}
+use Rattle.search.specs.declared.answer.Search.TheVariants.{Refused, Nothing, Found}
 
 abbrev pub unbounded : ℕ
 unbounded = 4294967295
 
+abbrev pub as_answer : Option Best → Search
+as_answer None = Nothing
+as_answer (Some x) = Found x
+
 -- Nothing is joined to a refusal, so that there any bound will do.
 abbrev pub bound_of : Search → ℕ
-bound_of (Err k) = 0
-bound_of (Ok None) = unbounded
-bound_of (Ok (Some x)) = x.complexity
+bound_of (Refused k) = 0
+bound_of Nothing = unbounded
+bound_of (Found x) = x.complexity
 
 pub record Joinable (f n : ℕ) (w : Search) (a : ℕ) (x : Option ℕ) : Type 0 where
   pub of_element : ElementOf f n a
@@ -71,27 +77,27 @@ module _ (f n a : ℕ) (x : Best) where
 
 -- c is a number of 32 bits
 joined-within : (f n a : ℕ) (w : Search) (c d : ℕ) → c ≤ unbounded → Within (bound_of w) c d
-    → joined w (Ok (Some (found_by f n a c))) ≡ joined w (Ok (Some (found_by f n a d)))
+    → joined w (Found (found_by f n a c)) ≡ joined w (Found (found_by f n a d))
 unfolding joined
-joined-within f n a (Err k) c d h e = refl
-joined-within f n a (Ok None) c d h e = let s : c ≡ d = omega arith in ap (λ (k : ℕ). Ok (Some (found_by f n a k))) s
-joined-within f n a (Ok (Some x)) c d h e = ap (λ (b : Best). Ok (Some b)) (better-within f n a x c d e)
+joined-within f n a (Refused k) c d h e = refl
+joined-within f n a Nothing c d h e = let s : c ≡ d = omega arith in ap (λ (k : ℕ). Found (found_by f n a k)) s
+joined-within f n a (Found x) c d h e = ap Found (better-within f n a x c d e)
 
 -- ---- a found record, by the cases of what is held
 
-pub join_refused : (w : Search) (k : Refusal) (x : Best) → w ≡ Err k → Err k ≡ joined w (Ok (Some x))
+pub join_refused : (w : Search) (k : Fault) (x : Best) → w ≡ Refused k → Refused k ≡ joined w (Found x)
 unfolding joined
 join_refused w k x e = rw e
 
-pub join_first : (w : Search) (x y : Best) → w ≡ Ok None → y ≡ x → Ok (Some y) ≡ joined w (Ok (Some x))
+pub join_first : (w : Search) (x y : Best) → w ≡ Nothing → y ≡ x → Found y ≡ joined w (Found x)
 unfolding joined
 join_first w x y e ey = rw (e, ey)
 
-pub join_better : (w : Search) (x held r : Best) → w ≡ Ok (Some held) → r ≡ better held x → Ok (Some r) ≡ joined w (Ok (Some x))
+pub join_better : (w : Search) (x held r : Best) → w ≡ Found held → r ≡ better held x → Found r ≡ joined w (Found x)
 unfolding joined
 join_better w x held r e er = rw (e, er)
 
-pub counts_fit : (w : Search) (x : Best) → w ≡ Ok (Some x) → count_of w + 1 < 2 ^ 64 → x.count + 1 < 2 ^ 64
+pub counts_fit : (w : Search) (x : Best) → w ≡ Found x → count_of w + 1 < 2 ^ 64 → x.count + 1 < 2 ^ 64
 unfolding count_of
 counts_fit w x e h = rw e at h
 
@@ -110,7 +116,7 @@ module _ (f n : ℕ) (w : Search) (a : ℕ) (x : Option ℕ) (s : Joinable f n w
       let t : normal f n a ≡ false = rw e at s.decides in
       sym (rw (candidate_none f n a (not_normal f n a s.leads t)) (joined-nothing w))
 
-  pub join_normal : (c : ℕ) → x ≡ Some c → c ≤ unbounded → (r : Search) → r ≡ joined w (Ok (Some (found_by f n a c))) → r ≡ joined w (candidate_of f n a)
+  pub join_normal : (c : ℕ) → x ≡ Some c → c ≤ unbounded → (r : Search) → r ≡ joined w (Found (found_by f n a c)) → r ≡ joined w (candidate_of f n a)
   unfolding complexity_at
   join_normal c e h r er =
       let t : Decides f n a (bound_of w) (Some c) = rw e at s.decides in

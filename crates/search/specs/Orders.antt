@@ -13,7 +13,7 @@ use Rattle.field.specs.Orders.{in_range}
 use Rattle.field.specs.Checked.{field_accepts, accepted-irreducible, accepted-returns}
 use Rattle.elements.specs.Fields.{FieldOf}
 use Rattle.search.specs.Answers.{search_of, case_report, report_of}
-use Rattle.search.specs.Search.{Search}
+use Rattle.search.specs.declared.answer.Search.{Search}
 
 -- ---- the answers
 

@@ -29,8 +29,8 @@ use Rattle.normal.specs.Normal.{normal, table_rows, complexity}
 use Rattle.normal.specs.Grades.{grade_of}
 use Rattle.normal.specs.declared.grade.Grade.{Grade}
 use Rattle.search.specs.declared.answer.Best.{Best}
-use Rattle.refusals.specs.declared.answer.Refusal.{Refusal}
-use Rattle.std.specs.Prelude.{Result, Option, Ok, Err, Some, None}
+use Rattle.search.specs.declared.answer.Search.{Search}
+use Rattle.search.specs.declared.answer.Search.TheVariants.{Refused, Nothing, Found}
 
 -- ---- leaders
 
@@ -82,22 +82,18 @@ better x y =
 -- ---- answers
 
 -- A refusal of either part is one of the whole. The right part's comes first: its end is the end of the whole.
--- what a search answers, and what a walk holds: the best found so far with the count of all, or nothing; or the refusal
-abbrev pub Search : Type 0
-Search = Result (Option Best) Refusal
-
 unfoldable pub joined : (x y : Search) → Search
-joined x (Err k) = Err k
-joined x (Ok None) = x
-joined (Err k) (Ok (Some y)) = Err k
-joined (Ok None) (Ok (Some y)) = Ok (Some y)
-joined (Ok (Some x)) (Ok (Some y)) = Ok (Some (better x y))
+joined x (Refused k) = Refused k
+joined x Nothing = x
+joined (Refused k) (Found y) = Refused k
+joined Nothing (Found y) = Found y
+joined (Found x) (Found y) = Found (better x y)
 
 unfoldable pub candidate_of : (f n a : ℕ) → Search
-candidate_of f n a = cond (normal_leader f n a) (Ok (Some (alone f n a))) (Ok None)
+candidate_of f n a = cond (normal_leader f n a) (Found (alone f n a)) Nothing
 
 unfoldable pub walked : (f n first k : ℕ) → Search
-walked f n first zero = (Ok None)
+walked f n first zero = Nothing
 walked f n first (suc k) = joined (walked f n first k) (candidate_of f n (first + k))
 
 -- "Given f, first and last (both included)"
@@ -106,13 +102,13 @@ ranged f n first last = walked f n first (suc last - first)
 
 -- an answer that is no refusal
 pub data Answered : Search → Type 0 where
-  nothing : Answered (Ok None)
-  found : (x : Best) → Answered (Ok (Some x))
+  nothing : Answered Nothing
+  found : (x : Best) → Answered (Found x)
 
 unfoldable pub count_of : Search → ℕ
-count_of (Err k) = 0
-count_of (Ok None) = 0
-count_of (Ok (Some x)) = x.count
+count_of (Refused k) = 0
+count_of Nothing = 0
+count_of (Found x) = x.count
 
 unfoldable pub counted : (first k : ℕ) → (ℕ → Bool) → ℕ
 counted first zero t = 0

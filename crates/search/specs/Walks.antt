@@ -9,16 +9,16 @@ use Prim.Native.Nat.{ℕ, ◌≤◌}
 use Rattle.gf2.specs.Truth.{bool_cases, and_parts}
 use Rattle.normal.specs.Normal.{normal}
 use Rattle.search.specs.Search.{leader, normal_leader, found_by, alone, candidate_of, Answered, nothing, found, count_of}
-use Rattle.std.specs.Prelude.{Ok, Some, None}
+use Rattle.search.specs.declared.answer.Search.TheVariants.{Nothing, Found}
 
 -- ---- one element
 
 module _ (f n a : ℕ) where
-  pub candidate_is : normal_leader f n a ≡ true → candidate_of f n a ≡ Ok (Some (alone f n a))
+  pub candidate_is : normal_leader f n a ≡ true → candidate_of f n a ≡ Found (alone f n a)
   unfolding candidate_of
   candidate_is e = rw e
 
-  pub candidate_none : normal_leader f n a ≡ false → candidate_of f n a ≡ Ok None
+  pub candidate_none : normal_leader f n a ≡ false → candidate_of f n a ≡ Nothing
   unfolding candidate_of
   candidate_none e = rw e
 

@@ -1,7 +1,8 @@
 // Found records: the one place where they are made, and how one more is joined to what is held.
-ghost use Rattle.std.specs.Prelude.{Some, Ok, ◌≡◌, ◌+◌, ◌^◌, ◌<◌};
+ghost use Rattle.std.specs.Prelude.{◌≡◌, ◌+◌, ◌^◌, ◌<◌};
 ghost use Rattle.search.specs.Search.{precedes, with_count, better, joined, found_by, candidate_of, count_of};
-ghost use Rattle.search.specs.Joining.{bound_of, Joinable};
+ghost use Rattle.search.specs.Joining.{as_answer, bound_of, Joinable};
+ghost use Rattle.search.specs.declared.answer.Search.TheVariants.{Found};
 
 use super::answer::Best;
 use elements::Squares;
@@ -46,7 +47,7 @@ fn better_of(squares: &Squares, x: Best, a: u64, ones: u32) -> Best
 
 // How many ones a table may have and still be the best: a count may be broken off above it.
 pub fn bound_of(held: Option<Best>) -> u32
-    ensures { result ≡ bound_of (Ok held) }
+    ensures { result ≡ bound_of (as_answer held) }
 {
     match held {
         None => UNBOUNDED,
@@ -56,8 +57,8 @@ pub fn bound_of(held: Option<Best>) -> u32
 
 // What is held, joined with the normal leader a, whose table has so many ones.
 fn join_leader(squares: &Squares, held: Option<Best>, a: u64, ones: u32) -> Best
-    requires { (a < 2 ^ squares.now.n) × (count_of (Ok held) + 1 < 2 ^ 64) }
-    ensures { Ok (Some result) ≡ joined (Ok held) (Ok (Some (found_by squares.now.f squares.now.n a ones))) }
+    requires { (a < 2 ^ squares.now.n) × (count_of (as_answer held) + 1 < 2 ^ 64) }
+    ensures { Found result ≡ joined (as_answer held) (Found (found_by squares.now.f squares.now.n a ones)) }
 {
     match held {
         None => found_by(squares, a, ones, 1),
@@ -72,8 +73,8 @@ pub fn join_decided(
     a: u64,
     decided: Option<u32>,
 ) -> Option<Best>
-    requires { Joinable squares.now.f squares.now.n (Ok held) a decided }
-    ensures { Ok result ≡ joined (Ok held) (candidate_of squares.now.f squares.now.n a) }
+    requires { Joinable squares.now.f squares.now.n (as_answer held) a decided }
+    ensures { as_answer result ≡ joined (as_answer held) (candidate_of squares.now.f squares.now.n a) }
 {
     match decided {
         None => held,

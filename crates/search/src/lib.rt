@@ -7,5 +7,5 @@ mod leader;
 mod searching;
 mod walking;
 
-pub use answer::Best;
+pub use answer::{Best, Search};
 pub use searching::search;

@@ -6,7 +6,7 @@ ghost use Rattle.field.specs.Accepted.{InRange};
 ghost use Rattle.field.specs.Refusals.{field_order};
 ghost use Rattle.search.specs.Answers.{range_rule, search_order, search_answer, search_report, case_report};
 
-use super::answer::Best;
+use super::answer::Search;
 use super::walking::walk;
 use field::{field_verdict, operands_verdict};
 use gf2::{Spread, degree_of};
@@ -31,12 +31,14 @@ fn search_verdict(spread: &Spread, f: u64, first: u64, last: u64) -> Result<(), 
     range_verdict(spread, f, degree_of(f), first, last)
 }
 
-// The normal class leader from first to last, both included, whose table has the fewest ones, if there is one.
-pub fn search(f: u64, first: u64, last: u64) -> Result<Option<Best>, Refusal>
+// The normal class leader from first to last, both included, whose table has the fewest ones.
+pub fn search(f: u64, first: u64, last: u64) -> Search
     ensures answer { result ≡ search_answer f first last }
     ensures report { case_report result ≡ search_report f first last }
 {
     let spread = Spread::new();
-    search_verdict(&spread, f, first, last)?;
-    Ok(walk(&spread, f, degree_of(f), None, first, last))
+    match search_verdict(&spread, f, first, last) {
+        Err(refusal) => Search::Refused(refusal.fault),
+        Ok(()) => Search::from(walk(&spread, f, degree_of(f), None, first, last)),
+    }
 }

@@ -1,9 +1,10 @@
 // The walk over a range: the elements in order, joined to what is held from before. Leaders of trace 1 alone are looked at. The first normal one
 // is found by building bases; it is then the reference through which it and all that follow are decided.
-ghost use Rattle.std.specs.Prelude.{Ok, ◌≡◌, true, ◌+◌, ◌-◌, ◌^◌, ◌≤◌, ◌<◌};
+ghost use Rattle.std.specs.Prelude.{◌≡◌, true, ◌+◌, ◌-◌, ◌^◌, ◌≤◌, ◌<◌};
 ghost use Rattle.normal.specs.Normal.{normal};
 ghost use Rattle.elements.specs.Held.{f_of, n_of};
 ghost use Rattle.search.specs.Search.{leader, normal_leader, joined, candidate_of, walked, ranged, count_of};
+ghost use Rattle.search.specs.Joining.{as_answer};
 ghost use Rattle.search.specs.Begun.{RangeOf, PartOf, trace_leader, FirstOf};
 
 use super::answer::Best;
@@ -46,8 +47,8 @@ fn first_normal(spread: &Spread, m: &Modulus, first: u64, last: u64) -> Option<u
 fn join_next(tables: &Tables, held: Option<Best>, a: u64) -> Option<Best>
     requires element { a < 2 ^ n_of tables.now.reference }
     requires leads { leader (f_of tables.now.reference) (n_of tables.now.reference) a ≡ true }
-    requires counts { count_of (Ok held) ≤ a }
-    ensures { Ok result ≡ joined (Ok held) (candidate_of (f_of tables.now.reference) (n_of tables.now.reference) a) }
+    requires counts { count_of (as_answer held) ≤ a }
+    ensures { as_answer result ≡ joined (as_answer held) (candidate_of (f_of tables.now.reference) (n_of tables.now.reference) a) }
 {
     let decided = tables.decide(a, bound_of(held));
     join_decided(tables.reference.modulus.squares, held, a, decided)
@@ -55,8 +56,8 @@ fn join_next(tables: &Tables, held: Option<Best>, a: u64) -> Option<Best>
 
 // What is held, joined with the elements from next to last.
 fn walk_on(tables: &Tables, held: Option<Best>, next: u64, last: u64) -> Option<Best>
-    requires { PartOf (n_of tables.now.reference) next last × (count_of (Ok held) ≤ next) }
-    ensures { Ok result ≡ joined (Ok held) (walked (f_of tables.now.reference) (n_of tables.now.reference) next (last + 1 - next)) }
+    requires { PartOf (n_of tables.now.reference) next last × (count_of (as_answer held) ≤ next) }
+    ensures { as_answer result ≡ joined (as_answer held) (walked (f_of tables.now.reference) (n_of tables.now.reference) next (last + 1 - next)) }
 {
     let m = tables.reference.modulus;
     let mut found = held;
@@ -77,8 +78,8 @@ pub fn walk(
     first: u64,
     last: u64,
 ) -> Option<Best>
-    requires { RangeOf f n first last × (count_of (Ok held) ≤ first) }
-    ensures { Ok result ≡ joined (Ok held) (ranged f n first last) }
+    requires { RangeOf f n first last × (count_of (as_answer held) ≤ first) }
+    ensures { as_answer result ≡ joined (as_answer held) (ranged f n first last) }
 {
     let squares = Squares::new(spread, f, n);
     let m = Modulus::new(&squares);

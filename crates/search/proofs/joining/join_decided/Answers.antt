@@ -4,18 +4,18 @@ use native.Mathlib.Omega.{arith}
 use borrow.Author.Rules.{rules}
 use mir.Val.{Fits}
 use mir.Syntax.{w32}
-use Rattle.search.specs.Joining.{join_not_normal, join_normal}
+use Rattle.search.specs.Joining.{as_answer, join_not_normal, join_normal}
+use Rattle.search.specs.declared.answer.Search.TheVariants.{Found}
 use Rattle.search.proofs.joining.join_decided.Goals as goal
-use Rattle.std.specs.Prelude.{Ok, Some}
 
 pub returns-in-None : goal.returns-in-None
 returns-in-None c =
     let s = c.args.squares.now in
-    join_not_normal s.f s.n (Ok c.args.held) c.args.a c.args.decided c.requires c.in-None.is
+    join_not_normal s.f s.n (as_answer c.args.held) c.args.a c.args.decided c.requires c.in-None.is
 
 pub returns-in-Some : goal.returns-in-Some
 returns-in-Some c =
     let s = c.args.squares.now in
     let h : Fits w32 c.in-Some.ones = search rules in
-    join_normal s.f s.n (Ok c.args.held) c.args.a c.args.decided c.requires
-    c.in-Some.ones c.in-Some.is (omega (arith, h.fits)) (Ok (Some c.join_leader.result)) c.join_leader.ensures
+    join_normal s.f s.n (as_answer c.args.held) c.args.a c.args.decided c.requires
+    c.in-Some.ones c.in-Some.is (omega (arith, h.fits)) (Found c.join_leader.result) c.join_leader.ensures

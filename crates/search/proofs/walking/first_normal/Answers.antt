@@ -6,10 +6,10 @@ use native.Mathlib.Omega.{arith}
 use Rattle.search.specs.Search.{normal_leader, walked}
 use Rattle.search.specs.Walks.{normal-leader, not_normal}
 use Rattle.search.specs.Begun.{FirstFrom, trace-leader-leads, not_trace-leader}
+use Rattle.search.specs.declared.answer.Search.TheVariants.{Nothing}
 use Rattle.search.proofs.Begun.{walked_start, first_turn}
 use Rattle.search.proofs.walking.first_normal.Goals.{else-is_trace_leader-via-then-is_trace_leader+else-is_normal, else-is_trace_leader-via-else-is_trace_leader}
 use Rattle.search.proofs.walking.first_normal.Goals as goal
-use Rattle.std.specs.Prelude.{Ok, None}
 
 pub loop-a-init : goal.loop-a-init
 loop-a-init c =
@@ -48,7 +48,7 @@ loop-a-preserved c =
     (omega (arith, c.loop-a-test.true), first_turn s.f s.n c.args.first c.loop-a.a c.loop-a.auto.a c.loop-a.invariant.1 fails)
 
 -- no normal leader is there, as the walk has passed last
-past : (f n first last a : ℕ) → first ≤ last + 1 → a ≡ last + 1 → walked f n first (a - first) ≡ Ok None → FirstFrom f n (normal_leader f n) first last (last + 1)
+past : (f n first last a : ℕ) → first ≤ last + 1 → a ≡ last + 1 → walked f n first (a - first) ≡ Nothing → FirstFrom f n (normal_leader f n) first last (last + 1)
 past f n first last a p e none =
     record {
       since = p;

@@ -2,8 +2,8 @@
 use mathlib.Core.Path.{◌≡◌}
 use Prim.Native.Nat.{◌+◌, ◌-◌, ◌≤◌}
 use Rattle.search.specs.Search.{walked}
+use Rattle.search.specs.declared.answer.Search.TheVariants.{Nothing}
 use Rattle.search.proofs.walking.first_normal.Given as goal
-use Rattle.std.specs.Prelude.{Ok, None}
 
 abbrev pub invariant-loop-a : goal.invariant-loop-a
-invariant-loop-a l = (l.a ≤ l.last + 1) × (walked l.m.squares.now.f l.m.squares.now.n l.first (l.a - l.first) ≡ Ok None)
+invariant-loop-a l = (l.a ≤ l.last + 1) × (walked l.m.squares.now.f l.m.squares.now.n l.first (l.a - l.first) ≡ Nothing)

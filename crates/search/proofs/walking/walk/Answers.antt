@@ -7,12 +7,12 @@ use Rattle.elements.specs.declared.squares.Squares.{Squares}
 use Rattle.elements.specs.declared.modulus.Modulus.{Modulus}
 use Rattle.elements.specs.Held.{f_of, n_of}
 use Rattle.search.specs.Search.{normal_leader}
+use Rattle.search.specs.Joining.{as_answer}
 use Rattle.search.specs.Walks.{leader_is_normal}
 use Rattle.search.specs.Begun.{PartOf, FirstFrom}
 use Rattle.search.proofs.Begun.{begun_nothing, begun_found}
 use Rattle.search.proofs.walking.walk.Goals.{After-new-m, After-new-tables}
 use Rattle.search.proofs.walking.walk.Goals as goal
-use Rattle.std.specs.Prelude.{Ok}
 
 -- the squares are those of f
 m_f : (t : After-new-m) → t.new-m.result.squares.now.f ≡ t.args.f
@@ -52,7 +52,7 @@ pub returns-in-None : goal.returns-in-None
 returns-in-None c =
     let m = (goal.at.returns-in-None c).After-new-m in
     let begun : FirstFrom c.args.f c.args.n (normal_leader c.args.f c.args.n) c.args.first c.args.last (c.args.last + 1) = rw (m_f m, m_n m) at c.in-None.ensures in
-    begun_nothing c.args.f c.args.n c.args.first c.args.last (c.args.last + 1) (normal_leader c.args.f c.args.n) begun (Ok c.args.held) (omega arith)
+    begun_nothing c.args.f c.args.n c.args.first c.args.last (c.args.last + 1) (normal_leader c.args.f c.args.n) begun (as_answer c.args.held) (omega arith)
 
 pub returns-in-Some : goal.returns-in-Some
 returns-in-Some c =
@@ -61,5 +61,5 @@ returns-in-Some c =
     let place = goal.at.returns-in-Some c in
     let m = place.After-new-m in
     let begun : FirstFrom f n (normal_leader f n) c.args.first c.args.last c.in-Some.b = rw (m_f m, m_n m) at c.in-Some.ensures.1 in
-    begun_found f n c.args.first c.args.last c.in-Some.b (normal_leader f n) begun (Ok c.args.held) (Ok c.walk_on.result)
+    begun_found f n c.args.first c.args.last c.in-Some.b (normal_leader f n) begun (as_answer c.args.held) (as_answer c.walk_on.result)
     (rw (tables_f place.After-new-tables m refl, tables_n place.After-new-tables m refl) at c.walk_on.ensures)

@@ -5,19 +5,20 @@ use Prim.Native.Nat.{ℕ, ◌+◌, ◌^◌, ◌<◌}
 use native.Mathlib.Omega.{arith}
 use Rattle.elements.specs.Fields.{FieldOf}
 use Rattle.elements.specs.Held.{f_of, n_of, of_field}
-use Rattle.search.specs.Search.{Search, joined, candidate_of}
+use Rattle.search.specs.Search.{joined, candidate_of}
 use Rattle.search.specs.Joined.{joined-nothing}
+use Rattle.search.specs.Joining.{as_answer}
 use Rattle.search.specs.Walks.{candidate_none}
 use Rattle.search.specs.Begun.{trace_leader, next-done, trace-leader-leads, not_trace-leader}
+use Rattle.search.specs.declared.answer.Search.{Search}
 use Rattle.search.proofs.Begun.{next_start, next_turn, next-count}
 use Rattle.search.proofs.walking.walk_on.Goals.{then-is_trace_leader, else-is_trace_leader}
 use Rattle.search.proofs.walking.walk_on.Goals as goal
-use Rattle.std.specs.Prelude.{Ok}
 
 pub loop-y-init : goal.loop-y-init
 loop-y-init c =
     let r = c.args.tables.now.reference in
-    (c.requires.0.within, c.requires.1, next_start (f_of r) (n_of r) c.args.next (Ok c.args.held))
+    (c.requires.0.within, c.requires.1, next_start (f_of r) (n_of r) c.args.next (as_answer c.args.held))
 
 pub join_next-found-requires : goal.join_next-found-requires
 join_next-found-requires c =
@@ -37,34 +38,34 @@ pub loop-y-preserved : goal.loop-y-preserved
 loop-y-preserved c =
     let r = c.args.tables.now.reference in
     let l = c.loop-y in
-    let found = Ok c.if-is_trace_leader.found in
+    let found = as_answer c.if-is_trace_leader.found in
     let below : l.y < 2 ^ n_of r = omega (arith, c.requires.0.elements, c.loop-y-test.true) in
-    let more : found ≡ joined (Ok l.found) (candidate_of (f_of r) (n_of r) l.y) =
+    let more : found ≡ joined (as_answer l.found) (candidate_of (f_of r) (n_of r) l.y) =
     elim c.if-is_trace_leader.branch [
-      | then-is_trace_leader w ↦ ap Ok w.found-is ∙ w.join_next-found.ensures
-      | else-is_trace_leader w ↦ skipped (f_of r) (n_of r) l.y (of_field r) below (sym c.is_trace_leader.ensures ∙ w.if-is_trace_leader.false) (Ok l.found) found (ap Ok w.found-is)
+      | then-is_trace_leader w ↦ ap as_answer w.found-is ∙ w.join_next-found.ensures
+      | else-is_trace_leader w ↦ skipped (f_of r) (n_of r) l.y (of_field r) below (sym c.is_trace_leader.ensures ∙ w.if-is_trace_leader.false) (as_answer l.found) found (ap as_answer w.found-is)
     ] in (
       omega (arith, c.loop-y-test.true),
-      next-count (f_of r) (n_of r) c.args.next l.y l.auto.y (Ok c.args.held) (Ok l.found) found more l.invariant.1,
-      next_turn (f_of r) (n_of r) c.args.next l.y l.auto.y (Ok c.args.held) (Ok l.found) found more l.invariant.2,
+      next-count (f_of r) (n_of r) c.args.next l.y l.auto.y (as_answer c.args.held) (as_answer l.found) found more l.invariant.1,
+      next_turn (f_of r) (n_of r) c.args.next l.y l.auto.y (as_answer c.args.held) (as_answer l.found) found more l.invariant.2,
     )
 
 pub returns : goal.returns
 returns c =
     let r = c.args.tables.now.reference in
     let l = c.loop-y in
-    next-done (f_of r) (n_of r) c.args.next c.args.last l.y (Ok c.args.held) (Ok l.found) l.invariant.0 c.loop-y-test.false l.invariant.2
+    next-done (f_of r) (n_of r) c.args.next c.args.last l.y (as_answer c.args.held) (as_answer l.found) l.invariant.0 c.loop-y-test.false l.invariant.2
 
 pub returns-after-is_trace_leader : goal.returns-after-is_trace_leader
 returns-after-is_trace_leader c =
     let r = c.args.tables.now.reference in
     let l = c.loop-y in
-    let found = Ok c.if-is_trace_leader.found in
+    let found = as_answer c.if-is_trace_leader.found in
     let below : l.y < 2 ^ n_of r = omega (arith, c.requires.0.elements, c.loop-y-test.true) in
-    let more : found ≡ joined (Ok l.found) (candidate_of (f_of r) (n_of r) l.y) =
+    let more : found ≡ joined (as_answer l.found) (candidate_of (f_of r) (n_of r) l.y) =
     elim c.if-is_trace_leader.branch [
-      | then-is_trace_leader w ↦ ap Ok w.found-is ∙ w.join_next-found.ensures
-      | else-is_trace_leader w ↦ skipped (f_of r) (n_of r) l.y (of_field r) below (sym c.is_trace_leader.ensures ∙ w.if-is_trace_leader.false) (Ok l.found) found (ap Ok w.found-is)
+      | then-is_trace_leader w ↦ ap as_answer w.found-is ∙ w.join_next-found.ensures
+      | else-is_trace_leader w ↦ skipped (f_of r) (n_of r) l.y (of_field r) below (sym c.is_trace_leader.ensures ∙ w.if-is_trace_leader.false) (as_answer l.found) found (ap as_answer w.found-is)
     ] in
-    next-done (f_of r) (n_of r) c.args.next c.args.last (l.y + 1) (Ok c.args.held) found (omega (arith, c.loop-y-test.true)) (omega arith)
-    (next_turn (f_of r) (n_of r) c.args.next l.y l.auto.y (Ok c.args.held) (Ok l.found) found more l.invariant.2)
+    next-done (f_of r) (n_of r) c.args.next c.args.last (l.y + 1) (as_answer c.args.held) found (omega (arith, c.loop-y-test.true)) (omega arith)
+    (next_turn (f_of r) (n_of r) c.args.next l.y l.auto.y (as_answer c.args.held) (as_answer l.found) found more l.invariant.2)

@@ -4,10 +4,10 @@ use mathlib.Core.Path.{◌≡◌}
 use Prim.Native.Nat.{◌+◌, ◌-◌, ◌≤◌}
 use Rattle.elements.specs.Held.{f_of, n_of}
 use Rattle.search.specs.Search.{joined, walked, count_of}
+use Rattle.search.specs.Joining.{as_answer}
 use Rattle.search.proofs.walking.walk_on.Given as goal
-use Rattle.std.specs.Prelude.{Ok}
 
 abbrev pub invariant-loop-y : goal.invariant-loop-y
 invariant-loop-y l =
-    (l.y ≤ l.last + 1) × (count_of (Ok l.found) ≤ l.y)
-    × (Ok l.found ≡ joined (Ok l.initial.found) (walked (f_of l.tables.reference) (n_of l.tables.reference) l.next (l.y - l.next)))
+    (l.y ≤ l.last + 1) × (count_of (as_answer l.found) ≤ l.y)
+    × (as_answer l.found ≡ joined (as_answer l.initial.found) (walked (f_of l.tables.reference) (n_of l.tables.reference) l.next (l.y - l.next)))
