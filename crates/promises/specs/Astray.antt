@@ -24,7 +24,6 @@ use Rattle.field.specs.Accepted.{degree_outside, divided, strays}
 use Rattle.refusals.specs.Answers.{refusal_at, answer_of, checked_of}
 use Rattle.refusals.specs.Orders.{first-applies, first_passes}
 use Rattle.refusals.specs.Verdicts.{first_of}
-use Rattle.refusals.specs.declared.answer.Checked.TheVariants as checked
 use Rattle.field.specs.Answers.{check_answer}
 use Rattle.field.specs.Checked.{accepted-irreducible}
 use Rattle.field.specs.Divided.{divided-means}
@@ -40,6 +39,8 @@ use Rattle.search.specs.Search.{leader, normal_leader, candidate_of, walked, ran
 use Rattle.search.specs.declared.answer.Search.TheVariants.{Nothing}
 use Rattle.sheet.proofs.Issuing.{based-degree, based-two, based-returns, based-free}
 use Rattle.sheet.specs.Sheets.{Based}
+use Rattle.std.specs.Prelude.{Err}
+use Rattle.refusals.specs.declared.fault.Fault.TheVariants as faults
 
 -- ---- "Trusting 003's table 6."
 
@@ -52,7 +53,7 @@ module _ (g i : ℕ) (deg : Degree g i) (pos : 1 ≤ i) where
       (divided-means (spread g) (degree (spread g))).1
       (g, record { m = i; is_degree = deg; from = pos; to = rw square-degree (omega arith); divides = (g, product-square g) })
 
-  pub even_exponents-refused : i + i ≤ limit → check_answer (spread g) ≡ checked.Refused (refusal_at 2 0)
+  pub even_exponents-refused : i + i ≤ limit → check_answer (spread g) ≡ Err (refusal_at faults.Divided 0)
   unfolding check_answer answer_of degree_outside
   even_exponents-refused h =
       ap checked_of

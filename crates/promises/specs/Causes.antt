@@ -21,7 +21,6 @@ use Rattle.sheet.specs.Record.{record_count, conjugate_in, polynomial_in}
 use Rattle.sheet.specs.Orders.{read_order}
 use Rattle.sheet.specs.Answers.{issue_of, summary_in, read_answer, read_report}
 use Rattle.sheet.specs.Answered.{done-clear}
-use Rattle.sheet.specs.declared.answer.Issued.TheVariants as issued
 use Rattle.causes.specs.Causes.{difference_in, polynomial_cause, basis_cause, bare_reason, cause_report, sheet_cause, reason_of, why_answer, why_report, why_check_answer, why_build_answer}
 use Rattle.causes.specs.Reported.{why-promised}
 use Rattle.causes.specs.True.{True, why_true, why-behind, shape-alone}
@@ -33,6 +32,9 @@ use Rattle.listing.specs.Text.{newline, number_then, refused_line, difference_li
 use Rattle.promises.specs.Calls.{Run, why, why-check, why-build, desk_read, desk_why, listing}
 use Rattle.promises.specs.Demand1.{why_is, why-check_is, why-build_is, listing_is}
 use Rattle.promises.specs.Exports.{desk_read_is, desk_why_is}
+use Rattle.std.specs.Prelude.{Ok, Err}
+use Rattle.refusals.specs.declared.fault.Fault.TheVariants as faults
+use Rattle.refusals.specs.Verdicts.{fault_number}
 
 -- ---- "Prove the cause true"
 
@@ -101,7 +103,7 @@ pub why-field_runs : (c : Run desk_why) → (c.result.number ≡ 10 → ⊥) →
 why-field_runs c = rw (desk_why_is c, ← why_numbers c.args.0.now) (field-alone (why_answer c.args.0.now))
 
 -- "All zero where reading accepts."
-pub why-zero_runs : (c : Run desk_why) → read_answer c.args.0.now ≡ issued.Done (summary_in c.args.0.now) → c.result ≡ desk_cause (bare_reason 0 0 0)
+pub why-zero_runs : (c : Run desk_why) → read_answer c.args.0.now ≡ Ok (summary_in c.args.0.now) → c.result ≡ desk_cause (bare_reason 0 0 0)
 unfolding read_answer why_report reason_of
 why-zero_runs c e =
     let sheet : List ℕ = c.args.0.now in
@@ -116,42 +118,42 @@ desk_why_true_runs c =
 -- ---- the lister
 
 -- "Where the lister prints one of these refusals, designers want its cause on a second line."
-pub second-line : (sheet : List ℕ) (r : Refusal) → read_answer sheet ≡ issued.Refused r
-    → listing_of sheet ≡ refused_line r.number r.place ++ cause_line (why_answer sheet)
+pub second-line : (sheet : List ℕ) (r : Refusal) → read_answer sheet ≡ Err r
+    → listing_of sheet ≡ refused_line (fault_number r.fault) r.place ++ cause_line (why_answer sheet)
 unfolding listing_of listing_by
 second-line sheet r e = rw e
 
 -- none for 7, 8 and 9
-pub shape-one-line : (sheet : List ℕ) (r : Refusal) → read_answer sheet ≡ issued.Refused r → 7 ≤ r.number → r.number ≤ 9
-    → listing_of sheet ≡ refused_line r.number r.place
+pub shape-one-line : (sheet : List ℕ) (r : Refusal) → read_answer sheet ≡ Err r → 7 ≤ fault_number r.fault → fault_number r.fault ≤ 9
+    → listing_of sheet ≡ refused_line (fault_number r.fault) r.place
 unfolding cause_line
 shape-one-line sheet r e low high =
-    second-line sheet r e ∙ rw (shape-alone sheet r e low high) (append-nil (refused_line r.number r.place))
+    second-line sheet r e ∙ rw (shape-alone sheet r e low high) (append-nil (refused_line (fault_number r.fault) r.place))
 
 module _ (sheet : List ℕ) where
   -- "For refusal 2, the smallest divisor of degree at least 1 as a number."
-  pub divisor-line : read_answer sheet ≡ issued.Refused (refusal_at 2 0) → listing_of sheet ≡ refused_line 2 0 ++ number_then (smallest_divisor (polynomial_in sheet)) newline
+  pub divisor-line : read_answer sheet ≡ Err (refusal_at faults.Divided 0) → listing_of sheet ≡ refused_line 2 0 ++ number_then (smallest_divisor (polynomial_in sheet)) newline
   unfolding sheet_cause basis_cause polynomial_cause cause_line
-  divisor-line e = second-line sheet (refusal_at 2 0) e ∙ rw (why-behind sheet (refusal_at 2 0) e)
+  divisor-line e = second-line sheet (refusal_at faults.Divided 0) e ∙ rw (why-behind sheet (refusal_at faults.Divided 0) e)
 
   -- "For refusal 3, what x became."
-  pub became_line : read_answer sheet ≡ issued.Refused (refusal_at 3 0)
+  pub became_line : read_answer sheet ≡ Err (refusal_at faults.Strays 0)
       → listing_of sheet ≡ refused_line 3 0 ++ number_then (squared (polynomial_in sheet) (record_count sheet) (record_count sheet) 2) newline
   unfolding sheet_cause basis_cause polynomial_cause cause_line
-  became_line e = second-line sheet (refusal_at 3 0) e ∙ rw (why-behind sheet (refusal_at 3 0) e)
+  became_line e = second-line sheet (refusal_at faults.Strays 0) e ∙ rw (why-behind sheet (refusal_at faults.Strays 0) e)
 
   -- "For refusal 5, the smallest non-zero number whose set bits select conjugates that sum to zero."
-  pub dependency-line : read_answer sheet ≡ issued.Refused (refusal_at 5 0)
+  pub dependency-line : read_answer sheet ≡ Err (refusal_at faults.NotNormal 0)
       → listing_of sheet ≡ refused_line 5 0 ++ number_then (dependency (polynomial_in sheet) (record_count sheet) (conjugate_in sheet 0)) newline
   unfolding sheet_cause basis_cause cause_line
-  dependency-line e = second-line sheet (refusal_at 5 0) e ∙ rw (why-behind sheet (refusal_at 5 0) e)
+  dependency-line e = second-line sheet (refusal_at faults.NotNormal 0) e ∙ rw (why-behind sheet (refusal_at faults.NotNormal 0) e)
 
   -- "For refusal 10, the record, the word conjugate, inverse or table, the stored number and the right one"
-  pub difference_line : (p : ℕ) → read_answer sheet ≡ issued.Refused (refusal_at 10 p) → listing_of sheet ≡ refused_line 10 p ++ difference_line_lem (difference_in sheet p)
+  pub difference_line : (p : ℕ) → read_answer sheet ≡ Err (refusal_at faults.Differs p) → listing_of sheet ≡ refused_line 10 p ++ difference_line_lem (difference_in sheet p)
   unfolding sheet_cause cause_line
-  difference_line p e = second-line sheet (refusal_at 10 p) e ∙ rw (why-behind sheet (refusal_at 10 p) e)
+  difference_line p e = second-line sheet (refusal_at faults.Differs p) e ∙ rw (why-behind sheet (refusal_at faults.Differs p) e)
 
 -- of every run of the listing: these two lines stand at the front of the text, and nothing else of it changes
-pub second-line_runs : (c : Run listing) (r : Refusal) → read_answer c.args.0.now ≡ issued.Refused r
-    → c.exit.1.0.now ≡ refused_line r.number r.place ++ cause_line (why_answer c.args.0.now) ++ drop c.result c.args.1.0.now
+pub second-line_runs : (c : Run listing) (r : Refusal) → read_answer c.args.0.now ≡ Err r
+    → c.exit.1.0.now ≡ refused_line (fault_number r.fault) r.place ++ cause_line (why_answer c.args.0.now) ++ drop c.result c.args.1.0.now
 second-line_runs c r e = rw ((listing_is c).0, (listing_is c).1, second-line c.args.0.now r e) refl

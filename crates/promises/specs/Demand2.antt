@@ -28,8 +28,6 @@ use Rattle.field.specs.Refusals.{degree_rule}
 use Rattle.refusals.specs.Answers.{refusal_at, answer_of, value_of}
 use Rattle.refusals.specs.Orders.{first_passes, first-none}
 use Rattle.refusals.specs.Verdicts.{Verdict}
-use Rattle.refusals.specs.declared.answer.Checked.TheVariants as checked
-use Rattle.refusals.specs.declared.answer.Value.TheVariants as value
 use Rattle.rows.specs.Rows.{comb, Independent}
 use Rattle.normal.specs.Normal.{conjugates, normal}
 use Rattle.normal.proofs.Coordinates.{normal-means}
@@ -44,21 +42,23 @@ use Rattle.sheet.specs.Rebuilding.{sheet_bytes-length}
 use Rattle.sheet.specs.Sheets.{Based, SheetOf}
 use Rattle.sheet.proofs.Through.{coordinates-lt, there_back, back-there, product_lt, product_of}
 use Rattle.sheet.specs.declared.answer.Summary.{Summary}
-use Rattle.sheet.specs.declared.answer.Issued.TheVariants as issued
+use Rattle.std.specs.Prelude.{Ok, Err}
+use Rattle.refusals.specs.Answers.{passed}
+use Rattle.refusals.specs.declared.fault.Fault.TheVariants as faults
 
 -- ---- the issue of a sheet
 
 module _ (f : ℕ) (acc : Accepted f) (a : ℕ) (ha : a < 2 ^ degree f) where
   module _ (room : ℕ) (fits : record_size * degree f ≤ room) where
     -- "a sheet is issued exactly when the element's conjugates are linearly independent over the two-element field"
-    pub issued_exactly : (build_answer f a room ≡ issued.Done (summary_of f (degree f) a)) ↔ Independent (conjugates f (degree f) a) (degree f)
+    pub issued_exactly : (build_answer f a room ≡ Ok (summary_of f (degree f) a)) ↔ Independent (conjugates f (degree f) a) (degree f)
     issued_exactly = (
       λ e. based-free f (degree f) a (answered_based f a room (summary_of f (degree f) a) e).0,
       λ free. build_answered f a room (free-based f a acc ha free) fits,
     )
 
     -- and otherwise refused with number 5
-    pub refused_otherwise : (Independent (conjugates f (degree f) a) (degree f) → ⊥) → build_answer f a room ≡ issued.Refused (refusal_at 5 0)
+    pub refused_otherwise : (Independent (conjugates f (degree f) a) (degree f) → ⊥) → build_answer f a room ≡ Err (refusal_at faults.NotNormal 0)
     unfolding build_answer answer_of
     refused_otherwise tied =
         ⊎_elim
@@ -108,35 +108,35 @@ module _ (f n a : ℕ) (sheet : List ℕ) (s : SheetOf f n a sheet) where
 
   -- "for every value of the field, converting to either notation and back returns the same value"; "Demand 2's return trip from the
   -- polynomial side gives the remainder" (document 02, §6), which for a value of the field is the value (`there-and-back-same`)
-  pub there_and_back : (word : ℕ) → (v : ℕ) × (normal_answer sheet word ≡ value.Done v) × (polynomial_answer sheet v ≡ value.Done (rem f n word))
+  pub there_and_back : (word : ℕ) → (v : ℕ) × (normal_answer sheet word ≡ Ok v) × (polynomial_answer sheet v ≡ Ok (rem f n word))
   there_and_back word =
       let v : ℕ = to_normal sheet word in
-      (v, normal_answered f n a sheet s word, polynomial_answered f n a sheet s v (coordinates-lt f n a sheet s word) ∙ ap value.Done (there_back f n a sheet s word))
+      (v, normal_answered f n a sheet s word, polynomial_answered f n a sheet s v (coordinates-lt f n a sheet s word) ∙ ap Ok (there_back f n a sheet s word))
 
-  pub there-and-back-same : (y : ℕ) → y < 2 ^ n → (v : ℕ) × (normal_answer sheet y ≡ value.Done v) × (polynomial_answer sheet v ≡ value.Done y)
-  there-and-back-same y h = let x = there_and_back y in (x.0, x.1, x.2 ∙ ap value.Done (rem-small f n y h))
+  pub there-and-back-same : (y : ℕ) → y < 2 ^ n → (v : ℕ) × (normal_answer sheet y ≡ Ok v) × (polynomial_answer sheet v ≡ Ok y)
+  there-and-back-same y h = let x = there_and_back y in (x.0, x.1, x.2 ∙ ap Ok (rem-small f n y h))
 
-  pub back-and-there : (v : ℕ) → v < 2 ^ n → (y : ℕ) × (polynomial_answer sheet v ≡ value.Done y) × (normal_answer sheet y ≡ value.Done v)
+  pub back-and-there : (v : ℕ) → v < 2 ^ n → (y : ℕ) × (polynomial_answer sheet v ≡ Ok y) × (normal_answer sheet y ≡ Ok v)
   back-and-there v h =
       let y : ℕ = to_polynomial sheet v in
-      (y, polynomial_answered f n a sheet s v h, normal_answered f n a sheet s y ∙ ap value.Done (back-there f n a sheet s v h))
+      (y, polynomial_answered f n a sheet s v h, normal_answered f n a sheet s y ∙ ap Ok (back-there f n a sheet s v h))
 
   -- of any words: their product modulo f is that of their remainders
-  pub multiplied : (x y : ℕ) → multiply_answer f x y ≡ value.Done (mul_mod f n x y)
+  pub multiplied : (x y : ℕ) → multiply_answer f x y ≡ Ok (mul_mod f n x y)
   unfolding multiply_answer answer_of
   multiplied x y =
       let e : degree f ≡ n = s.based.has_degree in
       let deg = based-degree f n a s.based in
       rw e
       (ap (λ (w : Verdict). value_of w (mul_mod f n (rem f n x) (rem f n y))) (first_passes (degree_rule f) _ s.based.accepted.in_range ∙ first-none)
-      ∙ ap value.Done (mul_mod-rem_l f n deg x (rem f n y) ∙ mul_mod-rem_r f n deg x y))
+      ∙ ap Ok (mul_mod-rem_l f n deg x (rem f n y) ∙ mul_mod-rem_r f n deg x y))
 
   -- "multiplying through the table, then converting, equals polynomial multiplication modulo the defining polynomial": u and v stand for
   -- x and y, their product w stands for z, and z is what the call multiply answers for x and y, their product modulo f
   pub multiplies : (u v : ℕ) → u < 2 ^ n → v < 2 ^ n
-      → (w x y z : ℕ) × (times_answer sheet u v ≡ value.Done w)
-      × (polynomial_answer sheet u ≡ value.Done x) × (polynomial_answer sheet v ≡ value.Done y)
-      × (polynomial_answer sheet w ≡ value.Done z) × (multiply_answer f x y ≡ value.Done z) × (z ≡ mul_mod f n x y)
+      → (w x y z : ℕ) × (times_answer sheet u v ≡ Ok w)
+      × (polynomial_answer sheet u ≡ Ok x) × (polynomial_answer sheet v ≡ Ok y)
+      × (polynomial_answer sheet w ≡ Ok z) × (multiply_answer f x y ≡ Ok z) × (z ≡ mul_mod f n x y)
   multiplies u v hu hv =
       let w : ℕ = through_table sheet u v in
       let x : ℕ = to_polynomial sheet u in
@@ -148,7 +148,7 @@ module _ (f n a : ℕ) (sheet : List ℕ) (s : SheetOf f n a sheet) where
         times_answered f n a sheet s u v hu hv,
         polynomial_answered f n a sheet s u hu,
         polynomial_answered f n a sheet s v hv,
-        polynomial_answered f n a sheet s w (product_lt f n a sheet s u v hv) ∙ ap value.Done (product_of f n a sheet s u v hu hv),
+        polynomial_answered f n a sheet s w (product_lt f n a sheet s u v hv) ∙ ap Ok (product_of f n a sheet s u v hu hv),
         multiplied x y,
         refl,
       )
@@ -156,15 +156,15 @@ module _ (f n a : ℕ) (sheet : List ℕ) (s : SheetOf f n a sheet) where
   -- ---- lists of up to 4,096 words, and of up to 4,096 coordinate numbers
 
   module _ (from : List ℕ) (short : length from ≤ list_limit) where
-    pub list-normal-done : normal_list_answer sheet from (length from) ≡ checked.Done
+    pub list-normal-done : normal_list_answer sheet from (length from) ≡ passed
     list-normal-done = list-normal_answered f n a sheet s from short
 
     module _ (into : List ℕ) (e : length into ≡ length from) where
       -- the conversion rule at every index
-      pub list-normal-at : (i : ℕ) → i < length from → normal_answer sheet (get_or from i 0) ≡ value.Done (get_or (normal_list sheet from into) i 0)
+      pub list-normal-at : (i : ℕ) → i < length from → normal_answer sheet (get_or from i 0) ≡ Ok (get_or (normal_list sheet from into) i 0)
       list-normal-at i h =
           normal_answered f n a sheet s (get_or from i 0)
-          ∙ ap value.Done (sym (ap (λ (l : List ℕ). get_or l i 0) (list-normal f n a sheet s from short into e) ∙ map_at (to_normal sheet) from i h))
+          ∙ ap Ok (sym (ap (λ (l : List ℕ). get_or l i 0) (list-normal f n a sheet s from short into e) ∙ map_at (to_normal sheet) from i h))
 
       -- there and back: the remainders
       pub lists_there-and-back : (other : List ℕ) → length other ≡ length from → polynomial_list sheet (normal_list sheet from into) other ≡ map (rem f n) from
@@ -177,14 +177,14 @@ module _ (f n a : ℕ) (sheet : List ℕ) (s : SheetOf f n a sheet) where
           ∙ map-agree (λ word. to_polynomial sheet (there word)) (rem f n) from (λ i h. there_back f n a sheet s (get_or from i 0))
 
     module _ (all : Small n from) where
-      pub list-polynomial-done : polynomial_list_answer sheet from (length from) ≡ checked.Done
+      pub list-polynomial-done : polynomial_list_answer sheet from (length from) ≡ passed
       list-polynomial-done = list-polynomial_answered f n a sheet s from short all
 
       module _ (into : List ℕ) (e : length into ≡ length from) where
-        pub list-polynomial-at : (i : ℕ) → i < length from → polynomial_answer sheet (get_or from i 0) ≡ value.Done (get_or (polynomial_list sheet from into) i 0)
+        pub list-polynomial-at : (i : ℕ) → i < length from → polynomial_answer sheet (get_or from i 0) ≡ Ok (get_or (polynomial_list sheet from into) i 0)
         list-polynomial-at i h =
             polynomial_answered f n a sheet s (get_or from i 0) (all i h)
-            ∙ ap value.Done (sym (ap (λ (l : List ℕ). get_or l i 0) (list-polynomial f n a sheet s from short all into e) ∙ map_at (to_polynomial sheet) from i h))
+            ∙ ap Ok (sym (ap (λ (l : List ℕ). get_or l i 0) (list-polynomial f n a sheet s from short all into e) ∙ map_at (to_polynomial sheet) from i h))
 
         module _ (other : List ℕ) (o : length other ≡ length from) where
           -- the list that came, if its values are of the field
@@ -208,10 +208,10 @@ pub record Built (sheet : List ℕ) (t : Summary) : Type 0 where
   pub f : ℕ
   pub a : ℕ
   pub buffer : List ℕ
-  pub answer : build_answer f a (length buffer) ≡ issued.Done t
+  pub answer : build_answer f a (length buffer) ≡ Ok t
   pub front : sheet ≡ take (record_size * degree f) (built_buffer f a buffer)
 
-accepted_built : (sheet : List ℕ) (t : Summary) → read_answer sheet ≡ issued.Done t → Built sheet t
+accepted_built : (sheet : List ℕ) (t : Summary) → read_answer sheet ≡ Ok t → Built sheet t
 accepted_built sheet t r =
     let f : ℕ = polynomial_in sheet in
     let a : ℕ = conjugate_in sheet 0 in
@@ -225,23 +225,23 @@ accepted_built sheet t r =
       f = f;
       a = a;
       buffer = sheet;
-      answer = build_answered f a (length sheet) b fits ∙ ap issued.Done (rw d x.1);
+      answer = build_answered f a (length sheet) b fits ∙ ap Ok (rw d x.1);
       front = bytes ∙ sym (build-sheet f a b sheet fits).bytes;
     }
 
-built_read : (sheet : List ℕ) (t : Summary) → Built sheet t → read_answer sheet ≡ issued.Done t
+built_read : (sheet : List ℕ) (t : Summary) → Built sheet t → read_answer sheet ≡ Ok t
 built_read sheet t w =
     let x = answered_based w.f w.a (length w.buffer) t w.answer in
     let s = build-sheet w.f w.a x.0 w.buffer x.1 in
-    ap read_answer w.front ∙ read_answered w.f (degree w.f) w.a _ s ∙ ap issued.Done x.2
+    ap read_answer w.front ∙ read_answered w.f (degree w.f) w.a _ s ∙ ap Ok x.2
 
 -- "sheets the builder wrote, which are exactly those that reading accepts"
-pub read_exactly : (sheet : List ℕ) (t : Summary) → (read_answer sheet ≡ issued.Done t) ↔ Built sheet t
+pub read_exactly : (sheet : List ℕ) (t : Summary) → (read_answer sheet ≡ Ok t) ↔ Built sheet t
 read_exactly sheet t = (accepted_built sheet t, built_read sheet t)
 
 -- ---- for a caller who holds a sheet that reading accepts, and nothing else: f, n and a are those that the sheet names itself
 
-module _ (sheet : List ℕ) (t : Summary) (r : read_answer sheet ≡ issued.Done t) where
+module _ (sheet : List ℕ) (t : Summary) (r : read_answer sheet ≡ Ok t) where
   pub accepted-sheet : SheetOf (polynomial_in sheet) (record_count sheet) (conjugate_in sheet 0) sheet
   accepted-sheet = (answered_sheet sheet t r).0
 
@@ -250,17 +250,17 @@ module _ (sheet : List ℕ) (t : Summary) (r : read_answer sheet ≡ issued.Done
   accepted_summary = sym (answered_sheet sheet t r).1
 
   pub accepted-there-and-back : (word : ℕ)
-      → (v : ℕ) × (normal_answer sheet word ≡ value.Done v) × (polynomial_answer sheet v ≡ value.Done (rem (polynomial_in sheet) (record_count sheet) word))
+      → (v : ℕ) × (normal_answer sheet word ≡ Ok v) × (polynomial_answer sheet v ≡ Ok (rem (polynomial_in sheet) (record_count sheet) word))
   accepted-there-and-back = there_and_back (polynomial_in sheet) (record_count sheet) (conjugate_in sheet 0) sheet accepted-sheet
 
-  pub accepted-there-and-back-same : (y : ℕ) → y < 2 ^ record_count sheet → (v : ℕ) × (normal_answer sheet y ≡ value.Done v) × (polynomial_answer sheet v ≡ value.Done y)
+  pub accepted-there-and-back-same : (y : ℕ) → y < 2 ^ record_count sheet → (v : ℕ) × (normal_answer sheet y ≡ Ok v) × (polynomial_answer sheet v ≡ Ok y)
   accepted-there-and-back-same = there-and-back-same (polynomial_in sheet) (record_count sheet) (conjugate_in sheet 0) sheet accepted-sheet
 
-  pub accepted-back-and-there : (v : ℕ) → v < 2 ^ record_count sheet → (y : ℕ) × (polynomial_answer sheet v ≡ value.Done y) × (normal_answer sheet y ≡ value.Done v)
+  pub accepted-back-and-there : (v : ℕ) → v < 2 ^ record_count sheet → (y : ℕ) × (polynomial_answer sheet v ≡ Ok y) × (normal_answer sheet y ≡ Ok v)
   accepted-back-and-there = back-and-there (polynomial_in sheet) (record_count sheet) (conjugate_in sheet 0) sheet accepted-sheet
 
   pub accepted-multiplies : (u v : ℕ) → u < 2 ^ record_count sheet → v < 2 ^ record_count sheet
-      → (w x y z : ℕ) × (times_answer sheet u v ≡ value.Done w)
-      × (polynomial_answer sheet u ≡ value.Done x) × (polynomial_answer sheet v ≡ value.Done y)
-      × (polynomial_answer sheet w ≡ value.Done z) × (multiply_answer (polynomial_in sheet) x y ≡ value.Done z) × (z ≡ mul_mod (polynomial_in sheet) (record_count sheet) x y)
+      → (w x y z : ℕ) × (times_answer sheet u v ≡ Ok w)
+      × (polynomial_answer sheet u ≡ Ok x) × (polynomial_answer sheet v ≡ Ok y)
+      × (polynomial_answer sheet w ≡ Ok z) × (multiply_answer (polynomial_in sheet) x y ≡ Ok z) × (z ≡ mul_mod (polynomial_in sheet) (record_count sheet) x y)
   accepted-multiplies = multiplies (polynomial_in sheet) (record_count sheet) (conjugate_in sheet 0) sheet accepted-sheet

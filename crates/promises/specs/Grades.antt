@@ -30,7 +30,6 @@ use Rattle.sheet.specs.Record.{record_size, record_count, conjugate_in, polynomi
 use Rattle.sheet.specs.Answers.{summary_of, build_answer, read_answer}
 use Rattle.sheet.proofs.IssuedLaws.{answered_based, answered_sheet}
 use Rattle.sheet.specs.declared.answer.Summary.{Summary}
-use Rattle.sheet.specs.declared.answer.Issued.TheVariants as issued
 use Rattle.listing.specs.Text.{row_lines, last_line, listing_by, listing_of}
 use Rattle.search.specs.Search.{LeaderOf, complexity_at, grade_at}
 use Rattle.search.specs.Answers.{search_answer}
@@ -40,6 +39,7 @@ use Rattle.search.specs.declared.answer.Search.TheVariants.{Found}
 use Rattle.promises.specs.Calls.{Run, build, search}
 use Rattle.promises.specs.Demand1.{build_is, search_is}
 use Rattle.promises.specs.Demand2.{issued_exactly}
+use Rattle.std.specs.Prelude.{Ok}
 
 -- c is the complexity of the basis of a, and k says what §3 has a grade's number say
 abbrev pub Graded : (f n a c k : ℕ) → Type 0
@@ -49,16 +49,16 @@ summary_graded : (f n a : ℕ) (t : Summary) → summary_of f n a ≡ t → Grad
 unfolding summary_of
 summary_graded f n a t e = rw (← e) (refl, grade_says f n a (complexity (table_rows f n a)))
 
-pub build_grades : (f a room : ℕ) (t : Summary) → build_answer f a room ≡ issued.Done t → Graded f (degree f) a t.complexity (grade_number t.grade)
+pub build_grades : (f a room : ℕ) (t : Summary) → build_answer f a room ≡ Ok t → Graded f (degree f) a t.complexity (grade_number t.grade)
 build_grades f a room t e = summary_graded f (degree f) a t (answered_based f a room t e).2
 
 -- of a sheet that reading accepts, the element is its record 0 conjugate
-pub read_grades : (sheet : List ℕ) (t : Summary) → read_answer sheet ≡ issued.Done t
+pub read_grades : (sheet : List ℕ) (t : Summary) → read_answer sheet ≡ Ok t
     → Graded (polynomial_in sheet) (record_count sheet) (conjugate_in sheet 0) t.complexity (grade_number t.grade)
 read_grades sheet t e = summary_graded (polynomial_in sheet) (record_count sheet) (conjugate_in sheet 0) t (answered_sheet sheet t e).1
 
 -- and the last line of its listing has these two numbers
-pub listing_grades : (sheet : List ℕ) (t : Summary) → read_answer sheet ≡ issued.Done t
+pub listing_grades : (sheet : List ℕ) (t : Summary) → read_answer sheet ≡ Ok t
     → (c k : ℕ) × (listing_of sheet ≡ row_lines sheet (record_count sheet) ++ last_line c k) × Graded (polynomial_in sheet) (record_count sheet) (conjugate_in sheet 0) c k
 unfolding listing_of listing_by
 listing_grades sheet t e = (t.complexity, grade_number t.grade, rw e, read_grades sheet t e)
@@ -93,11 +93,11 @@ module _ (f : ℕ) (accepted : Accepted f) (a : ℕ) (element : a < 2 ^ degree f
         let b : ℕ = squared f (degree f) i a in
         (issued_exactly f accepted b (squared-lt f (degree f) d.is_degree i a element) room fits).1
         (conjugate-normal f (degree f) d.is_degree d.two (accepted-returns f accepted) a element i within free)
-        ∙ ap issued.Done same_summary ∙ sym ((issued_exactly f accepted a element room fits).1 free)
+        ∙ ap Ok same_summary ∙ sym ((issued_exactly f accepted a element room fits).1 free)
 
   -- the element that is found leads the class of a
   pub found_for_class : (first last : ℕ) (x : Best) → search_answer f first last ≡ Found x → LeaderOf f (degree f) a x.element
-      → (room : ℕ) (t : Summary) → build_answer f a room ≡ issued.Done t → (t.complexity ≡ x.complexity) × (t.grade ≡ x.grade)
+      → (room : ℕ) (t : Summary) → build_answer f a room ≡ Ok t → (t.complexity ≡ x.complexity) × (t.grade ≡ x.grade)
   unfolding grade_at complexity_at summary_of
   found_for_class first last x e l room t et =
       let s = answer-own f first last x e in
@@ -107,7 +107,7 @@ module _ (f : ℕ) (accepted : Accepted f) (a : ℕ) (element : a < 2 ^ degree f
 
 -- ---- of the calls themselves
 
-pub build_grades_runs : (c : Run build) (t : Summary) → c.result ≡ issued.Done t
+pub build_grades_runs : (c : Run build) (t : Summary) → c.result ≡ Ok t
     → Graded c.args.0 (degree c.args.0) c.args.1.0 t.complexity (grade_number t.grade)
 build_grades_runs c t e = build_grades c.args.0 c.args.1.0 (length c.args.1.1.0.now) t (sym (build_is c).0 ∙ e)
 

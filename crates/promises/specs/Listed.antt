@@ -23,6 +23,7 @@ use Rattle.matrices.proofs.Places.{place-most}
 use Rattle.search.specs.Answers.{search_order}
 use Rattle.refusals.specs.Told.{AtZero, Below, Every, numbers_of}
 use Rattle.refusals.specs.Telling.{every_append, every_also, listed-at-zero, at-zero-positive, below-positive}
+use Rattle.refusals.specs.Verdicts.{fault_number}
 
 -- ---- orders whose places are all 0
 
@@ -167,7 +168,7 @@ eight_nine (suc k) = 8 ∷ 9 ∷ eight_nine k
 
 numbers_append : (xs ys : List Rule) → numbers_of (xs ++ ys) ≡ numbers_of xs ++ numbers_of ys
 numbers_append [] ys = refl
-numbers_append (r ∷ xs) ys = ap (λ (l : List ℕ). r.number ∷ l) (numbers_append xs ys)
+numbers_append (r ∷ xs) ys = ap (λ (l : List ℕ). fault_number r.fault ∷ l) (numbers_append xs ys)
 
 records_sequence : (sheet : List ℕ) (i k : ℕ) → numbers_of (record_rules sheet i k) ≡ eight_nine k
 unfolding record_rules

@@ -27,7 +27,6 @@ use Rattle.sheet.specs.Answers.{build_answer, built_buffer, read_answer}
 use Rattle.sheet.proofs.Held.{table-rows}
 use Rattle.sheet.specs.Sheets.{Based}
 use Rattle.sheet.specs.declared.answer.Summary.{Summary}
-use Rattle.sheet.specs.declared.answer.Issued.TheVariants as issued
 use Rattle.matrices.specs.Matrices.{matrix_entry, line_end, line_bytes, matrices_text, matrix_size, text_size}
 use Rattle.matrices.specs.Orders.{count_of, common}
 use Rattle.matrices.specs.Answers.{text_in, write_text_answer, written_text, read_text_answer}
@@ -44,13 +43,15 @@ use Rattle.matrices.proofs.Places.{text_differs_exactly}
 use Rattle.promises.specs.Calls.{Run, build, write_matrices, read-matrices}
 use Rattle.promises.specs.Demand1.{build_is, write_matrices_is, read-matrices_is}
 use Rattle.promises.specs.Demand2.{accepted-sheet}
+use Rattle.std.specs.Prelude.{Ok, Err}
+use Rattle.refusals.specs.declared.fault.Fault.TheVariants as faults
 
 -- ---- the matrices
 
 pub figure_is_n-times : (f n a : ℕ) → Based f n a → matrix_ones_lem f n a ≡ n * complexity (table_rows f n a)
 figure_is_n-times f n a b = figure.figure_is_n-times f n a b
 
-module _ (sheet : List ℕ) (t : Summary) (r : read_answer sheet ≡ issued.Done t) where
+module _ (sheet : List ℕ) (t : Summary) (r : read_answer sheet ≡ Ok t) where
   abbrev f : ℕ
   f = polynomial_in sheet
 
@@ -78,7 +79,7 @@ module _ (sheet : List ℕ) (t : Summary) (r : read_answer sheet ≡ issued.Done
 
 -- ---- writing
 
-module _ (sheet buffer : List ℕ) (t : Summary) (e : write_text_answer sheet (length buffer) ≡ issued.Done t) where
+module _ (sheet buffer : List ℕ) (t : Summary) (e : write_text_answer sheet (length buffer) ≡ Ok t) where
   -- the text at the front, and the bytes past it unchanged
   pub text_written : written_text sheet buffer ≡ text_in sheet ++ drop (text_size (record_count sheet)) buffer
   text_written = written_front sheet buffer t e
@@ -90,29 +91,29 @@ module _ (sheet buffer : List ℕ) (t : Summary) (e : write_text_answer sheet (l
 -- ---- reading
 
 -- "reading accepts exactly what writing gives for them", and answers as build did
-module _ (f a : ℕ) (buffer : List ℕ) (t : Summary) (built : build_answer f a (length buffer) ≡ issued.Done t) (lent : List ℕ) (fits : text_size (degree f) ≤ length lent) where
-  pub written_as_build : write_text_answer (built_sheet f a buffer) (length lent) ≡ issued.Done t
+module _ (f a : ℕ) (buffer : List ℕ) (t : Summary) (built : build_answer f a (length buffer) ≡ Ok t) (lent : List ℕ) (fits : text_size (degree f) ≤ length lent) where
+  pub written_as_build : write_text_answer (built_sheet f a buffer) (length lent) ≡ Ok t
   written_as_build = write_built f a buffer t built lent fits
 
-  pub accepts_exactly : (text : List ℕ) → (read_text_answer f a text ≡ issued.Done t) ↔ (text ≡ text_given (built_sheet f a buffer) lent)
+  pub accepts_exactly : (text : List ℕ) → (read_text_answer f a text ≡ Ok t) ↔ (text ≡ text_given (built_sheet f a buffer) lent)
   accepts_exactly = reading_built f a buffer t built lent fits
 
 -- the same over buffers that the sheet and the text fill
-pub accepts_whole : (f a : ℕ) (buffer : List ℕ) (t : Summary) → build_answer f a (length buffer) ≡ issued.Done t → length buffer ≡ record_size * degree f
-    → (lent : List ℕ) → length lent ≡ text_size (degree f) → (text : List ℕ) → (read_text_answer f a text ≡ issued.Done t) ↔ (text ≡ written_text (built_buffer f a buffer) lent)
+pub accepts_whole : (f a : ℕ) (buffer : List ℕ) (t : Summary) → build_answer f a (length buffer) ≡ Ok t → length buffer ≡ record_size * degree f
+    → (lent : List ℕ) → length lent ≡ text_size (degree f) → (text : List ℕ) → (read_text_answer f a text ≡ Ok t) ↔ (text ≡ written_text (built_buffer f a buffer) lent)
 accepts_whole f a buffer t built filled lent fits text = reading_whole f a buffer t built filled lent fits text
 
 -- "answering as build does", to which a buffer of 32n bytes is lent
 module _ (f a room : ℕ) (fits : record_size * degree f ≤ room) (text : List ℕ) where
-  pub as_build : (t : Summary) → read_text_answer f a text ≡ issued.Done t → build_answer f a room ≡ issued.Done t
+  pub as_build : (t : Summary) → read_text_answer f a text ≡ Ok t → build_answer f a room ≡ Ok t
   as_build = text_done_as_build f a room fits text
 
-  pub refused_as_build : (r : Refusal) → build_answer f a room ≡ issued.Refused r → read_text_answer f a text ≡ issued.Refused r
+  pub refused_as_build : (r : Refusal) → build_answer f a room ≡ Err r → read_text_answer f a text ≡ Err r
   refused_as_build = text_refused_as_build f a room fits text
 
 -- 14 exactly for a text that differs where nothing before it applies, and its place
 pub placed_exactly : (f a : ℕ) (text : List ℕ) (p : ℕ)
-    → (read_text_answer f a text ≡ issued.Refused (refusal_at 14 p))
+    → (read_text_answer f a text ≡ Err (refusal_at faults.OtherText p))
     ↔ (Based f (degree f) a × (text ≡ matrices_text f (degree f) a → ⊥) × (p ≡ count_of line_end (common text (matrices_text f (degree f) a))))
 placed_exactly = text_differs_exactly
 
@@ -124,7 +125,7 @@ shared_beginning x y = (common-left x y, common-right x y, λ front u v ex ey. r
 
 -- ---- of the calls themselves
 
-module _ (c : Run write_matrices) (t : Summary) (e : c.result ≡ issued.Done t) where
+module _ (c : Run write_matrices) (t : Summary) (e : c.result ≡ Ok t) where
   pub writes_runs : c.exit.1.0.now ≡ text_in c.args.0.now ++ drop (text_size (record_count c.args.0.now)) c.args.1.0.now
   writes_runs = (write_matrices_is c).1 ∙ text_written c.args.0.now c.args.1.0.now t (sym (write_matrices_is c).0 ∙ e)
 
@@ -133,7 +134,7 @@ module _ (c : Run write_matrices) (t : Summary) (e : c.result ≡ issued.Done t)
 
   -- what writing left is accepted, for the polynomial and the element that the sheet names, with the same answer
   pub read-back_runs : (d : Run read-matrices) → d.args.0 ≡ polynomial_in c.args.0.now → d.args.1.0 ≡ conjugate_in c.args.0.now 0
-      → d.args.1.1.0.now ≡ take (text_size (record_count c.args.0.now)) c.exit.1.0.now → d.result ≡ issued.Done t
+      → d.args.1.1.0.now ≡ take (text_size (record_count c.args.0.now)) c.exit.1.0.now → d.result ≡ Ok t
   read-back_runs d ef ea et =
       let sheet : List ℕ = c.args.0.now in
       let buffer : List ℕ = c.args.1.0.now in
@@ -142,10 +143,10 @@ module _ (c : Run write_matrices) (t : Summary) (e : c.result ≡ issued.Done t)
       read-matrices_is d ∙ rw (ef, ea) ((reading_accepts (polynomial_in sheet) (conjugate_in sheet 0) d.args.1.1.0.now t).1 g)
 
 -- `accepts_exactly` of runs: build is done, writing has its sheet and room, and reading has f and the element of build
-pub accepts_exactly_runs : (b : Run build) (w : Run write_matrices) (d : Run read-matrices) (t : Summary) → b.result ≡ issued.Done t
+pub accepts_exactly_runs : (b : Run build) (w : Run write_matrices) (d : Run read-matrices) (t : Summary) → b.result ≡ Ok t
     → w.args.0.now ≡ take (record_size * degree b.args.0) b.exit.1.1.0.now → text_size (degree b.args.0) ≤ length w.args.1.0.now
     → d.args.0 ≡ b.args.0 → d.args.1.0 ≡ b.args.1.0
-    → (d.result ≡ issued.Done t) ↔ (d.args.1.1.0.now ≡ take (text_size (record_count w.args.0.now)) w.exit.1.0.now)
+    → (d.result ≡ Ok t) ↔ (d.args.1.1.0.now ≡ take (text_size (record_count w.args.0.now)) w.exit.1.0.now)
 accepts_exactly_runs b w d t e es fits ef ea =
     let f : ℕ = b.args.0 in
     let a : ℕ = b.args.1.0 in
@@ -157,11 +158,11 @@ accepts_exactly_runs b w d t e es fits ef ea =
     rw (read-matrices_is d, ef, ea, left) (accepts_exactly f a buffer t (sym (build_is b).0 ∙ e) lent fits d.args.1.1.0.now)
 
 -- a run of reading is done exactly if writing gave the text, from some sheet of f and the element
-pub accepts_runs : (c : Run read-matrices) (t : Summary) → (c.result ≡ issued.Done t) ↔ GivenFor c.args.0 c.args.1.0 c.args.1.1.0.now t
+pub accepts_runs : (c : Run read-matrices) (t : Summary) → (c.result ≡ Ok t) ↔ GivenFor c.args.0 c.args.1.0 c.args.1.1.0.now t
 accepts_runs c t = rw (read-matrices_is c) (reading_accepts c.args.0 c.args.1.0 c.args.1.1.0.now t)
 
 pub placed_runs : (c : Run read-matrices) (p : ℕ)
-    → (c.result ≡ issued.Refused (refusal_at 14 p))
+    → (c.result ≡ Err (refusal_at faults.OtherText p))
     ↔ (Based c.args.0 (degree c.args.0) c.args.1.0 × (c.args.1.1.0.now ≡ matrices_text c.args.0 (degree c.args.0) c.args.1.0 → ⊥)
     × (p ≡ count_of line_end (common c.args.1.1.0.now (matrices_text c.args.0 (degree c.args.0) c.args.1.0))))
 placed_runs c p = rw (read-matrices_is c) (placed_exactly c.args.0 c.args.1.0 c.args.1.1.0.now p)

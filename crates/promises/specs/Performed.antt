@@ -17,9 +17,6 @@ use Rattle.gf2.specs.Poly.{degree}
 use Rattle.field.specs.Accepted.{Accepted}
 use Rattle.field.specs.Checked.{check_accepts}
 use Rattle.refusals.specs.Answers.{refusal_at}
-use Rattle.refusals.specs.declared.answer.Checked.TheVariants as checked
-use Rattle.refusals.specs.declared.answer.Value.{Value}
-use Rattle.refusals.specs.declared.answer.Value.TheVariants as value
 use Rattle.rows.specs.Rows.{Independent}
 use Rattle.normal.specs.Normal.{conjugates}
 use Rattle.sheet.specs.Record.{record_size, sheet_bytes}
@@ -28,7 +25,6 @@ use Rattle.sheet.specs.Answers.{summary_of, polynomial_answer}
 use Rattle.sheet.proofs.IssuedLaws.{answered_based, build-buffer, build-sheet}
 use Rattle.sheet.specs.Sheets.{SheetOf}
 use Rattle.sheet.specs.declared.answer.Summary.{Summary}
-use Rattle.sheet.specs.declared.answer.Issued.TheVariants as issued
 use Rattle.search.specs.Search.{normal_leader, joined, counted, Named}
 use Rattle.search.specs.declared.answer.Best.{Best}
 use Rattle.search.specs.declared.answer.Search.TheVariants.{Nothing, Found}
@@ -36,11 +32,15 @@ use Rattle.promises.specs.Calls.{Run, check, multiply, build, to-polynomial, to-
 use Rattle.promises.specs.Demand1.{check_is, build_is, to-polynomial_is, list-to-polynomial_is, list-to-normal_is, search_is}
 use Rattle.promises.specs.Demand2.{issued_exactly, refused_otherwise, list-polynomial-done, list-polynomial-at, lists_back-and-there}
 use Rattle.promises.specs.Demand3.{search_finds, search_finds_nothing, union_joined}
+use Rattle.std.specs.Prelude.{Result, Ok, Err}
+use Rattle.refusals.specs.Answers.{passed}
+use Rattle.refusals.specs.declared.answer.Refusal.{Refusal}
+use Rattle.refusals.specs.declared.fault.Fault.TheVariants as faults
 
 -- ---- check
 
 -- done exactly if f is accepted
-pub check_accepts_exactly : (c : Run check) → (c.result ≡ checked.Done) ↔ Accepted c.args.0
+pub check_accepts_exactly : (c : Run check) → (c.result ≡ passed) ↔ Accepted c.args.0
 check_accepts_exactly c = rw (check_is c) (check_accepts c.args.0)
 
 -- ---- build
@@ -48,15 +48,15 @@ check_accepts_exactly c = rw (check_is c) (check_accepts c.args.0)
 module _ (c : Run build) where
   module _ (acc : Accepted c.args.0) (ha : c.args.1.0 < 2 ^ degree c.args.0) (fits : record_size * degree c.args.0 ≤ length c.args.1.1.0.now) where
     -- "a sheet is issued exactly when the element's conjugates are linearly independent"
-    pub build_issues_exactly : (c.result ≡ issued.Done (summary_of c.args.0 (degree c.args.0) c.args.1.0))
+    pub build_issues_exactly : (c.result ≡ Ok (summary_of c.args.0 (degree c.args.0) c.args.1.0))
         ↔ Independent (conjugates c.args.0 (degree c.args.0) c.args.1.0) (degree c.args.0)
     build_issues_exactly = rw (build_is c).0 (issued_exactly c.args.0 acc c.args.1.0 ha (length c.args.1.1.0.now) fits)
 
-    pub build-refuses_else : (Independent (conjugates c.args.0 (degree c.args.0) c.args.1.0) (degree c.args.0) → ⊥) → c.result ≡ issued.Refused (refusal_at 5 0)
+    pub build-refuses_else : (Independent (conjugates c.args.0 (degree c.args.0) c.args.1.0) (degree c.args.0) → ⊥) → c.result ≡ Err (refusal_at faults.NotNormal 0)
     build-refuses_else tied = (build_is c).0 ∙ refused_otherwise c.args.0 acc c.args.1.0 ha (length c.args.1.1.0.now) fits tied
 
   -- a build that is done left the sheet at the buffer's front, and the rest of the buffer as it came
-  pub build_writes : (t : Summary) → c.result ≡ issued.Done t
+  pub build_writes : (t : Summary) → c.result ≡ Ok t
       → SheetOf c.args.0 (degree c.args.0) c.args.1.0 (take (record_size * degree c.args.0) c.exit.1.1.0.now)
       × (c.exit.1.1.0.now ≡ sheet_bytes c.args.0 (degree c.args.0) c.args.1.0 ++ drop (record_size * degree c.args.0) c.args.1.1.0.now)
   build_writes t e =
@@ -66,19 +66,19 @@ module _ (c : Run build) where
 -- ---- on such a sheet
 
 -- what every run of a call returns on a sheet: of a conversion, of the product; and of multiply
-abbrev pub ElementOf : (sheet : List ℕ) (v : ℕ) (r : Value) → Type 0
+abbrev pub ElementOf : (sheet : List ℕ) (v : ℕ) (r : Result ℕ Refusal) → Type 0
 ElementOf sheet v r = (d : Run to-polynomial) → d.args.0.now ≡ sheet → d.args.1.0 ≡ v → d.result ≡ r
 
-abbrev pub CoordinatesOf : (sheet : List ℕ) (y : ℕ) (r : Value) → Type 0
+abbrev pub CoordinatesOf : (sheet : List ℕ) (y : ℕ) (r : Result ℕ Refusal) → Type 0
 CoordinatesOf sheet y r = (d : Run to-normal) → d.args.0.now ≡ sheet → d.args.1.0 ≡ y → d.result ≡ r
 
-abbrev pub ProductOf : (sheet : List ℕ) (u v : ℕ) (r : Value) → Type 0
+abbrev pub ProductOf : (sheet : List ℕ) (u v : ℕ) (r : Result ℕ Refusal) → Type 0
 ProductOf sheet u v r = (c : Run times) → c.args.0.now ≡ sheet → c.args.1.0 ≡ u → c.args.1.1.0 ≡ v → c.result ≡ r
 
-abbrev pub Multiplied : (f x y : ℕ) (r : Value) → Type 0
+abbrev pub Multiplied : (f x y : ℕ) (r : Result ℕ Refusal) → Type 0
 Multiplied f x y r = (c : Run multiply) → c.args.0 ≡ f → c.args.1.0 ≡ x → c.args.1.1.0 ≡ y → c.result ≡ r
 
-pub elements : (sheet : List ℕ) (v : ℕ) (r : Value) → polynomial_answer sheet v ≡ r → ElementOf sheet v r
+pub elements : (sheet : List ℕ) (v : ℕ) (r : Result ℕ Refusal) → polynomial_answer sheet v ≡ r → ElementOf sheet v r
 elements sheet v r e d es ev = to-polynomial_is d ∙ ap₂ (λ (s : List ℕ) (x : ℕ). polynomial_answer s x) es ev ∙ e
 
 -- ---- lists of up to 4,096 words, and of up to 4,096 coordinate numbers
@@ -89,8 +89,8 @@ pub record Words (from into : List ℕ) : Type 0 where
   pub as_long : length into ≡ length from
 
 module _ (f n a : ℕ) (c : Run list-to-polynomial) (s : SheetOf f n a c.args.0.now) (l : Words c.args.1.0.now c.args.1.1.0.now) (all : Small n c.args.1.0.now) where
-  pub list-polynomial-each : (c.result ≡ checked.Done)
-      × ((i : ℕ) → i < length c.args.1.0.now → ElementOf c.args.0.now (get_or c.args.1.0.now i 0) (value.Done (get_or c.exit.1.1.0.now i 0)))
+  pub list-polynomial-each : (c.result ≡ passed)
+      × ((i : ℕ) → i < length c.args.1.0.now → ElementOf c.args.0.now (get_or c.args.1.0.now i 0) (Ok (get_or c.exit.1.1.0.now i 0)))
   list-polynomial-each = (
     (list-to-polynomial_is c).0 ∙ rw l.as_long (list-polynomial-done f n a c.args.0.now s c.args.1.0.now l.short all),
     λ i h. elements c.args.0.now (get_or c.args.1.0.now i 0) _

@@ -14,7 +14,6 @@ use Rattle.gf2.specs.Poly.{degree}
 use Rattle.refusals.specs.Answers.{answer_of, left, checked_of}
 use Rattle.refusals.specs.Verdicts.{Rule, Verdict, clear, refuse, first_of}
 use Rattle.refusals.specs.declared.answer.Refusal.{Refusal}
-use Rattle.refusals.specs.declared.answer.Checked.TheVariants as checked
 use Rattle.field.specs.Answers.{check_answer, multiply_answer, square_answer, trace_answer}
 use Rattle.field.specs.Refusals.{multiply_order, square_order, trace_order, check_order}
 use Rattle.sheet.specs.Record.{record_count}
@@ -22,8 +21,6 @@ use Rattle.sheet.specs.Orders.{build_order, polynomial_order, times_order, inver
 use Rattle.sheet.specs.Answers.{issue_of, issued_of, issued_report, build_answer, built_buffer, polynomial_answer, times_answer, inverse_answer, quotient_answer, polynomial_list_answer, polynomial_list, normal_list_answer, normal_list}
 use Rattle.sheet.specs.Answered.{issued_report_lem}
 use Rattle.sheet.specs.declared.answer.Summary.{Summary}
-use Rattle.sheet.specs.declared.answer.Issued.{Issued}
-use Rattle.sheet.specs.declared.answer.Issued.TheVariants as issued
 use Rattle.matrices.specs.Orders.{write_text_order, read_text_order}
 use Rattle.matrices.specs.Answers.{write_text_answer, read_text_answer}
 use Rattle.matrices.specs.Exact.{written_kept}
@@ -38,12 +35,14 @@ use Rattle.promises.specs.Demand1.{check_is, multiply_is, square_is, trace_is, b
 use Rattle.promises.specs.Listed.{OnValue, OnDivision, OnWords, OnList, OnWritingText, OnReadingText, multiply-listed, square-listed, trace-listed, check-listed, build-listed, search-listed, value-listed, value-positive, division_listed, division_positive, words_listed, words_positive, list-listed, list-positive, write_listed, write_positive, text_listed, text_positive}
 use Rattle.refusals.specs.Told.{AtZero, AllZero, Every, Told, ValueTold, CheckedTold, number_of, place_of}
 use Rattle.refusals.specs.Telling.{nonzero, placed-zero, at-zero-positive, told, value_told, checked_told}
+use Rattle.std.specs.Prelude.{Result, Ok, Err}
+use Rattle.refusals.specs.declared.fault.Fault.{Fault}
 
 -- ---- the answers of build, reading and the search, by the verdict of an order
 
-abbrev pub IssuedTold : (rs : List Rule) → (ℕ → ℕ → Type 0) → Issued → Type 0
+abbrev pub IssuedTold : (rs : List Rule) → (ℕ → ℕ → Type 0) → Result Summary Refusal → Type 0
 IssuedTold rs P r =
-    Told rs P ((t : Summary) × (r ≡ issued.Done t)) (issued_report r).number (issued_report r).place
+    Told rs P ((t : Summary) × (r ≡ Ok t)) (issued_report r).number (issued_report r).place
     ((issued_report r).degree ∷ (issued_report r).complexity ∷ (issued_report r).grade ∷ [])
 
 -- the search's answer carries no place
@@ -51,13 +50,13 @@ abbrev pub SearchTold : (rs : List Rule) → (ℕ → ℕ → Type 0) → Search
 SearchTold rs P r =
     Told rs P (Answered r) (case_report r).number 0 ((case_report r).element ∷ (case_report r).complexity ∷ (case_report r).grade ∷ (case_report r).count ∷ [])
 
-done_issued : (v : Verdict) (s : Summary) → (v ≡ clear) ↔ ((t : Summary) × (issued_of v s ≡ issued.Done t))
+done_issued : (v : Verdict) (s : Summary) → (v ≡ clear) ↔ ((t : Summary) × (issued_of v s ≡ Ok t))
 unfolding answer_of
 done_issued clear s = (λ e. (s, refl), λ d. refl)
 done_issued (refuse k p) s =
     (λ e. let z : ◌≡◌ {A = ℕ} 0 1 = cc in absurd (omega arith), λ d. let e = d.1 in let z : ◌≡◌ {A = ℕ} 0 1 = cc in absurd (omega arith))
 
-answered_not_refused : (x : Search) (k : ℕ) → Answered x → x ≡ searched.Refused k → ⊥
+answered_not_refused : (x : Search) (k : Fault) → Answered x → x ≡ searched.Refused k → ⊥
 answered_not_refused x k nothing e = let z : ◌≡◌ {A = ℕ} 0 1 = cc in omega arith
 answered_not_refused x k (found y) e = let z : ◌≡◌ {A = ℕ} 0 1 = cc in omega arith
 
@@ -73,12 +72,12 @@ answered_number x nothing = refl
 answered_number x (found y) = refl
 
 -- what a refusal reports beside its number and place is zero
-refused_search : (k p : ℕ) (x : Search)
+refused_search : (k : Fault) (p : ℕ) (x : Search)
     → AllZero ((case_report (search_of (refuse k p) x)).element ∷ (case_report (search_of (refuse k p) x)).complexity ∷ (case_report (search_of (refuse k p) x)).grade ∷ (case_report (search_of (refuse k p) x)).count ∷ [])
 unfolding answer_of case_report refused_report
 refused_search k p x = (refl, (refl, (refl, (refl, tt))))
 
-refused_issue : (k p : ℕ) (s : Summary)
+refused_issue : (k : Fault) (p : ℕ) (s : Summary)
     → AllZero ((issue_of (refuse k p) s).degree ∷ (issue_of (refuse k p) s).complexity ∷ (issue_of (refuse k p) s).grade ∷ [])
 unfolding issue_of
 refused_issue k p s = (refl, (refl, (refl, tt)))
@@ -86,7 +85,7 @@ refused_issue k p s = (refl, (refl, (refl, tt)))
 module _ (rs : List Rule) (P : ℕ → ℕ → Type 0) (all : Every P rs) (positive : (k p : ℕ) → P k p → 0 < k) where
   -- as the verdict's report has it, for the exports
   pub issue_told : (s : Summary)
-      → Told rs P ((t : Summary) × (issued_of (first_of rs) s ≡ issued.Done t)) (issue_of (first_of rs) s).number (issue_of (first_of rs) s).place
+      → Told rs P ((t : Summary) × (issued_of (first_of rs) s ≡ Ok t)) (issue_of (first_of rs) s).number (issue_of (first_of rs) s).place
       ((issue_of (first_of rs) s).degree ∷ (issue_of (first_of rs) s).complexity ∷ (issue_of (first_of rs) s).grade ∷ [])
   issue_told s =
       told rs P _ _ _ _ all positive (done_issued (first_of rs) s) (number (first_of rs)) (place (first_of rs))
@@ -193,27 +192,27 @@ search_told c =
 
 -- ---- "every lent buffer and list stays as it came"
 
-built_refused : (v : Verdict) (s : Summary) (r : Refusal) (done came : List ℕ) → issued_of v s ≡ issued.Refused r → left v done came ≡ came
+built_refused : (v : Verdict) (s : Summary) (r : Refusal) (done came : List ℕ) → issued_of v s ≡ Err r → left v done came ≡ came
 unfolding answer_of left
 built_refused clear s r done came e = let z : ◌≡◌ {A = ℕ} 0 1 = cc in absurd (omega arith)
 built_refused (refuse k p) s r done came e = refl
 
-list-refused : (v : Verdict) (r : Refusal) (done came : List ℕ) → checked_of v ≡ checked.Refused r → left v done came ≡ came
+list-refused : (v : Verdict) (r : Refusal) (done came : List ℕ) → checked_of v ≡ Err r → left v done came ≡ came
 unfolding answer_of left
 list-refused clear r done came e = let z : ◌≡◌ {A = ℕ} 0 1 = cc in absurd (omega arith)
 list-refused (refuse k p) r done came e = refl
 
-pub build_unchanged : (c : Run calls.build) (r : Refusal) → c.result ≡ issued.Refused r → c.exit.1.1.0.now ≡ c.args.1.1.0.now
+pub build_unchanged : (c : Run calls.build) (r : Refusal) → c.result ≡ Err r → c.exit.1.1.0.now ≡ c.args.1.1.0.now
 unfolding build_answer built_buffer
 build_unchanged c r e = (build_is c).1 ∙ built_refused _ _ r _ c.args.1.1.0.now (sym (build_is c).0 ∙ e)
 
-pub list-to-polynomial_unchanged : (c : Run calls.list-to-polynomial) (r : Refusal) → c.result ≡ checked.Refused r → c.exit.1.1.0.now ≡ c.args.1.1.0.now
+pub list-to-polynomial_unchanged : (c : Run calls.list-to-polynomial) (r : Refusal) → c.result ≡ Err r → c.exit.1.1.0.now ≡ c.args.1.1.0.now
 unfolding polynomial_list_answer polynomial_list
 list-to-polynomial_unchanged c r e = (list-to-polynomial_is c).1 ∙ list-refused _ r _ c.args.1.1.0.now (sym (list-to-polynomial_is c).0 ∙ e)
 
-pub list-to-normal_unchanged : (c : Run calls.list-to-normal) (r : Refusal) → c.result ≡ checked.Refused r → c.exit.1.1.0.now ≡ c.args.1.1.0.now
+pub list-to-normal_unchanged : (c : Run calls.list-to-normal) (r : Refusal) → c.result ≡ Err r → c.exit.1.1.0.now ≡ c.args.1.1.0.now
 unfolding normal_list_answer normal_list
 list-to-normal_unchanged c r e = (list-to-normal_is c).1 ∙ list-refused _ r _ c.args.1.1.0.now (sym (list-to-normal_is c).0 ∙ e)
 
-pub write_matrices_unchanged : (c : Run calls.write_matrices) (r : Refusal) → c.result ≡ issued.Refused r → c.exit.1.0.now ≡ c.args.1.0.now
+pub write_matrices_unchanged : (c : Run calls.write_matrices) (r : Refusal) → c.result ≡ Err r → c.exit.1.0.now ≡ c.args.1.0.now
 write_matrices_unchanged c r e = (write_matrices_is c).1 ∙ written_kept c.args.0.now c.args.1.0.now r (sym (write_matrices_is c).0 ∙ e)

@@ -7,9 +7,6 @@ use Rattle.std.proofs.Common.{◌∙◌, arith}
 use Rattle.gf2.specs.Poly.{degree}
 use Rattle.refusals.specs.Answers.{answer_of, left, report_of}
 use Rattle.refusals.specs.Verdicts.{Rule, Verdict, clear, refuse, first_of}
-use Rattle.refusals.specs.declared.answer.Checked.TheVariants as checked
-use Rattle.refusals.specs.declared.answer.Value.{Value}
-use Rattle.refusals.specs.declared.answer.Value.TheVariants as value
 use Rattle.field.specs.Answers.{check_answer, check_report, multiply_answer, multiply_report, square_answer, square_report, trace_answer, trace_report}
 use Rattle.field.specs.Refusals.{multiply_order, square_order, trace_order, check_order}
 use Rattle.sheet.specs.Record.{record_count}
@@ -18,8 +15,6 @@ use Rattle.sheet.specs.Listed.{OnShape, OnReading}
 use Rattle.sheet.proofs.Listed.{shape-listed, read-listed}
 use Rattle.sheet.specs.Answers.{issue_of, build_answer, build_report, built_buffer, read_answer, read_report, polynomial_answer, polynomial_report, normal_answer, normal_report, times_answer, times_report, inverse_answer, inverse_report, quotient_answer, quotient_report, polynomial_list_answer, polynomial_list_report, polynomial_list, normal_list_answer, normal_list_report, normal_list}
 use Rattle.sheet.specs.declared.answer.Summary.{Summary}
-use Rattle.sheet.specs.declared.answer.Issued.{Issued}
-use Rattle.sheet.specs.declared.answer.Issued.TheVariants as issued
 use Rattle.matrices.specs.Orders.{write_text_order, read_text_order}
 use Rattle.matrices.specs.Answers.{write_text_answer, write_text_report, written_text, read_text_answer, read_text_report}
 use Rattle.search.specs.Answers.{search_order, search_of, search_answer, search_report, refused_report}
@@ -38,6 +33,10 @@ use Rattle.promises.specs.Listed.{OnValue, OnDivision, OnWords, OnList, OnWritin
 use Rattle.promises.specs.Refused.{issue_told, done_searched, answered_number}
 use Rattle.refusals.specs.Told.{AtZero, AllZero, Every, Told, number_of}
 use Rattle.refusals.specs.Telling.{nonzero, placed-zero, at-zero-positive, told, report_told, done-value, done_checked}
+use Rattle.std.specs.Prelude.{Result, Ok}
+use Rattle.refusals.specs.Answers.{passed}
+use Rattle.refusals.specs.declared.answer.Refusal.{Refusal}
+use Rattle.refusals.specs.declared.fault.Fault.{Fault}
 
 -- ---- the structs
 
@@ -45,17 +44,17 @@ abbrev pub DeskValueTold : (rs : List Rule) → (ℕ → ℕ → Type 0) → (Do
 DeskValueTold rs P Done d = Told rs P Done d.number d.place (d.value ∷ [])
 
 -- done with some value
-abbrev pub Valued : Value → Type 0
-Valued r = (x : ℕ) × (r ≡ value.Done x)
+abbrev pub Valued : Result ℕ Refusal → Type 0
+Valued r = (x : ℕ) × (r ≡ Ok x)
 
-abbrev pub DeskIssuedTold : (rs : List Rule) → (ℕ → ℕ → Type 0) → Issued → DeskIssued → Type 0
-DeskIssuedTold rs P r d = Told rs P ((t : Summary) × (r ≡ issued.Done t)) d.number d.place (d.degree ∷ d.complexity ∷ d.grade ∷ [])
+abbrev pub DeskIssuedTold : (rs : List Rule) → (ℕ → ℕ → Type 0) → Result Summary Refusal → DeskIssued → Type 0
+DeskIssuedTold rs P r d = Told rs P ((t : Summary) × (r ≡ Ok t)) d.number d.place (d.degree ∷ d.complexity ∷ d.grade ∷ [])
 
 abbrev pub DeskFoundTold : (rs : List Rule) → (ℕ → ℕ → Type 0) → Search → DeskFound → Type 0
 DeskFoundTold rs P r d = Told rs P (Answered r) d.number 0 (d.found ∷ d.element ∷ d.complexity ∷ d.grade ∷ d.count ∷ [])
 
 -- what a refusal leaves in the struct beside its number is zero
-refused_found : (k p : ℕ) (x : Search)
+refused_found : (k : Fault) (p : ℕ) (x : Search)
     → AllZero (found_flag (search_of (refuse k p) x) ∷ (answers.report_of (refuse k p) x).element ∷ (answers.report_of (refuse k p) x).complexity ∷ (answers.report_of (refuse k p) x).grade ∷ (answers.report_of (refuse k p) x).count ∷ [])
 unfolding found_flag answer_of answers.report_of refused_report
 refused_found k p x = (refl, (refl, (refl, (refl, (refl, tt)))))
@@ -74,7 +73,7 @@ module _ (ks : List ℕ) (nz : nonzero ks ≡ true) (rs : List Rule) (all : Ever
 
 -- ---- the field calls
 
-pub desk_check_told : (c : Run calls.desk_check) → DeskValueTold (check_order c.args.0) (AtZero (1 ∷ 2 ∷ 3 ∷ [])) (check_answer c.args.0 ≡ checked.Done) c.result
+pub desk_check_told : (c : Run calls.desk_check) → DeskValueTold (check_order c.args.0) (AtZero (1 ∷ 2 ∷ 3 ∷ [])) (check_answer c.args.0 ≡ passed) c.result
 unfolding check_answer check_report
 desk_check_told c = rw (desk_check_is c) (report_told _ _ (check-listed c.args.0) (at-zero-positive (1 ∷ 2 ∷ 3 ∷ []) refl) _ (done_checked (first_of (check_order c.args.0))) 0)
 
@@ -139,13 +138,13 @@ desk_quotient_told c =
 
 -- ---- lists
 
-pub desk_list-to-polynomial_told : (c : Run calls.desk_list-to-polynomial) → DeskValueTold (polynomial_list_order c.args.0.now c.args.1.0.now (length c.args.1.1.0.now)) (OnList (record_count c.args.0.now) (length c.args.1.0.now)) (polynomial_list_answer c.args.0.now c.args.1.0.now (length c.args.1.1.0.now) ≡ checked.Done) c.result
+pub desk_list-to-polynomial_told : (c : Run calls.desk_list-to-polynomial) → DeskValueTold (polynomial_list_order c.args.0.now c.args.1.0.now (length c.args.1.1.0.now)) (OnList (record_count c.args.0.now) (length c.args.1.0.now)) (polynomial_list_answer c.args.0.now c.args.1.0.now (length c.args.1.1.0.now) ≡ passed) c.result
 unfolding polynomial_list_answer polynomial_list_report
 desk_list-to-polynomial_told c =
     rw (desk_list-to-polynomial_is c).0
     (report_told _ _ (list-listed c.args.0.now c.args.1.0.now (length c.args.1.1.0.now)) (list-positive (record_count c.args.0.now) (length c.args.1.0.now)) _ (done_checked (first_of (polynomial_list_order c.args.0.now c.args.1.0.now (length c.args.1.1.0.now)))) 0)
 
-pub desk_list-to-normal_told : (c : Run calls.desk_list-to-normal) → DeskValueTold (normal_list_order c.args.0.now c.args.1.0.now (length c.args.1.1.0.now)) (OnWords (record_count c.args.0.now)) (normal_list_answer c.args.0.now c.args.1.0.now (length c.args.1.1.0.now) ≡ checked.Done) c.result
+pub desk_list-to-normal_told : (c : Run calls.desk_list-to-normal) → DeskValueTold (normal_list_order c.args.0.now c.args.1.0.now (length c.args.1.1.0.now)) (OnWords (record_count c.args.0.now)) (normal_list_answer c.args.0.now c.args.1.0.now (length c.args.1.1.0.now) ≡ passed) c.result
 unfolding normal_list_answer normal_list_report
 desk_list-to-normal_told c =
     rw (desk_list-to-normal_is c).0

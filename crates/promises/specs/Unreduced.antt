@@ -33,15 +33,17 @@ use Rattle.sheet.specs.Lists.{map-length, map-agree}
 use Rattle.promises.specs.Calls.{Run, multiply, square, list-to-normal}
 use Rattle.promises.specs.Calls as calls
 use Rattle.promises.specs.Demand1.{multiply_is, square_is, trace_is, list-to-normal_is}
+use Rattle.refusals.specs.declared.fault.Fault.{Fault}
+use Rattle.refusals.specs.declared.fault.Fault.TheVariants as faults
 
 -- a refusal carries no value
-pub refused-same : (k p x y : ℕ) → value_of (refuse k p) x ≡ value_of (refuse k p) y
+pub refused-same : (k : Fault) (p x y : ℕ) → value_of (refuse k p) x ≡ value_of (refuse k p) y
 unfolding answer_of
 refused-same k p x y = refl
 
-pub verdict_cases : (v : Verdict) → (v ≡ clear) ⊎ ((k p : ℕ) × (v ≡ refuse k p))
+pub verdict_cases : (v : Verdict) → (v ≡ clear) ⊎ ((k : Fault) × ((p : ℕ) × (v ≡ refuse k p)))
 verdict_cases clear = inl refl
-verdict_cases (refuse k p) = inr (k, p, refl)
+verdict_cases (refuse k p) = inr (k, (p, refl))
 
 -- ---- the three field calls
 
@@ -50,7 +52,7 @@ by_degree : (f : ℕ) (rest : List Rule) (x y : ℕ) → (Degree f (degree f) �
     → value_of (first_of (degree_rule f ∷ rest)) x ≡ value_of (first_of (degree_rule f ∷ rest)) y
 by_degree f rest x y e =
     ⊎_elim
-    (λ (o : degree_outside f ≡ true). rw (first-applies (degree_rule f) rest o) (refused-same 1 0 x y))
+    (λ (o : degree_outside f ≡ true). rw (first-applies (degree_rule f) rest o) (refused-same faults.DegreeOutside 0 x y))
     (λ (o : degree_outside f ≡ false). ap (value_of (first_of (degree_rule f ∷ rest))) (e (in_range f (degree f) refl o).is_degree))
     (bool_cases (degree_outside f))
 
@@ -85,7 +87,7 @@ module _ (sheet : List ℕ) where
   normal-remainder word =
       ⊎_elim
       (λ (e : first_of (shape_order sheet) ≡ clear). ap (value_of (first_of (shape_order sheet))) (same-coordinates sheet e word))
-      (λ (r : (k p : ℕ) × (first_of (shape_order sheet) ≡ refuse k p)). rw r.2 (refused-same r.0 r.1 _ _))
+      (λ (r : (k : Fault) × ((p : ℕ) × (first_of (shape_order sheet) ≡ refuse k p))). rw r.1.1 (refused-same r.0 r.1.0 _ _))
       (verdict_cases (first_of (shape_order sheet)))
 
   -- a list of words, and what is then written
@@ -101,8 +103,8 @@ module _ (sheet : List ℕ) where
         ap (λ (l : List ℕ). left (first_of (list_order sheet (length from) (length into))) l into)
         (map-agree (to_normal sheet) (λ w. to_normal sheet (element_in sheet w)) from (λ i h. same-coordinates sheet e (get_or from i 0))
         ∙ sym (map-map (to_normal sheet) (element_in sheet) from)))
-        (λ (r : (k p : ℕ) × (first_of (shape_order sheet) ≡ refuse k p)).
-        rw (part-refused (shape_order sheet) _ r.0 r.1 r.2) (unfold left in refl))
+        (λ (r : (k : Fault) × ((p : ℕ) × (first_of (shape_order sheet) ≡ refuse k p))).
+        rw (part-refused (shape_order sheet) _ r.0 r.1.0 r.1.1) (unfold left in refl))
         (verdict_cases (first_of (shape_order sheet)))),
   )
 
