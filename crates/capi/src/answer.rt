@@ -1,5 +1,5 @@
-// What the calls hand out: the numbers of document 01 for each case of an answer, in structs that C knows. Each is made of the library's
-// answer by From.
+// What the calls hand out: the numbers of document 01 for each case of an answer, in structs that C knows: their fields and numbers are the C
+// interface. Each is made of the library's answer by From.
 ghost use Rattle.std.specs.Prelude.{◌≡◌};
 ghost use Rattle.refusals.specs.Answers.{value_report, checked_report};
 ghost use Rattle.sheet.specs.Answers.{issued_report};

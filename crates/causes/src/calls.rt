@@ -1,4 +1,5 @@
-// The calls: why reading, check and build refuse. Each makes the call it speaks of, and tells what lies behind a refusal.
+// The calls: why reading, check and build refuse. Each makes the call it speaks of, and tells what lies behind a refusal. They stay three: they
+// differ in the call, in the refusals that say all and in what lies behind the others, so that one function would be no plainer.
 ghost use Rattle.std.specs.Prelude.{◌≡◌, ◌&&◌, ◌||◌, leb, eqb};
 ghost use Rattle.refusals.specs.Verdicts.{fault_number, refuse, first_of};
 ghost use Rattle.sheet.specs.Orders.{Shaped, rebuild_order, read_order};
@@ -28,7 +29,7 @@ fn rebuilt_cause(sheet: &[u8], refusal: Refusal) -> Cause
     }
 }
 
-// Whether a refusal of reading speaks of the shape. After one that does not, the shape is right.
+// Whether a refusal of reading speaks of the shape. After one that does not, the shape is right. It takes any number, as its promise does.
 pub fn is_of_shape(number: u8) -> bool
     ensures { result ≡ (leb 7 number && leb number 9) }
 {

@@ -9,6 +9,7 @@ use field::too_large;
 use gf2::multiply;
 
 // What is known of v: nothing; r with r times v = 1; or w, which is not 0, with w times v = 0.
+// Two cases have a number and one has none, so that no Option and no Result is plainer.
 #[derive(Clone, Copy)]
 pub enum Witness {
     Unknown,

@@ -1,4 +1,5 @@
-// Polynomials over the two-element field as numbers: bit i is the coefficient of x^i.
+// Polynomials over the two-element field as numbers: bit i is the coefficient of x^i. f, its degree n and an element stay three numbers: C hands
+// them over as such, and a type of f and n would be made anew by every caller and be no plainer.
 #![tactic(auto)]
 
 mod degree;
