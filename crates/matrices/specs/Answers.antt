@@ -1,4 +1,4 @@
--- What the calls on the text of the matrices answer: the case of the enum, the documents' numbers for each case, and the final state of the
+-- What the calls on the text of the matrices answer: a Result, the documents' numbers for each of its cases, and the final state of the
 -- lent buffer. "Answering as build does" is said of reading; writing answers so too. Definitions alone.
 --
 --   text_in sheet                 the text of the polynomial and the element that a sheet names

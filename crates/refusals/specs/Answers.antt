@@ -1,4 +1,4 @@
--- What a verdict gives a call: the case of its enum, document 01's number, place and value for each case, and the final state of lent
+-- What a verdict gives a call: its answer, document 01's number, place and value for each case of an answer, and the final state of lent
 -- memory. Definitions alone.
 --
 --   refusal_at k p               the refusal for k at the place p

@@ -7,7 +7,7 @@
 --   rule-applies                a number that an order has once
 --    listed-at-zero, ..positive   the numbers of an order are its own, and none of them is 0
 --   told                        a call, by the number, the place and the values that it hands out
---   report_told, value_told, checked_told   the same for a report, and for the two enums of this crate
+--   report_told, value_told, checked_told   the same for a report, and for an answer of one value and of none
 --
 -- Assumes nothing.
 use Rattle.std.specs.Prelude.{◌≡◌, ◌⊎◌, ◌↔◌, Bool, true, false, not, ◌&&◌, List, [], ◌∷◌, ◌++◌, map, ℕ, ◌<◌, ltb, eqb, ◌-◌, slice_index_or, Ok}

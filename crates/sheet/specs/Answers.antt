@@ -1,4 +1,4 @@
--- What the calls on sheets answer: the case of the enum, the documents' numbers for each case, and the final state of lent memory.
+-- What the calls on sheets answer: a Result, the documents' numbers for each of its cases, and the final state of lent memory.
 -- Definitions alone.
 --
 --   Issue                         the documents' numbers for what build and reading answer
