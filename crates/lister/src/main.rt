@@ -4,7 +4,7 @@
 
 use gf2::LIMIT;
 use listing::LISTING_ROOM;
-use sheet::{Issued, RECORD};
+use sheet::RECORD;
 use streams::{
     Ending, Failure, Host, cannot, end, finish_output, read_whole, word_count, write_output,
 };
@@ -12,8 +12,8 @@ use streams::{
 // Whether a sheet is refused: that is how the run ends when the listing is written.
 fn judge(sheet: &[u8]) -> Result<(), Failure> {
     match sheet::read(sheet) {
-        Issued::Refused(_) => Err(Failure::Refused),
-        Issued::Done(_) => Ok(()),
+        Err(_) => Err(Failure::Refused),
+        Ok(_) => Ok(()),
     }
 }
 
@@ -31,8 +31,12 @@ fn answer<H: Host>(host: &H) -> Result<(), Failure> {
         return Err(Failure::BadWord);
     }
     let mut input = [0u8; RECORD * LIMIT + 1];
-    let size = read_whole(&mut host.reader(), &mut input)
-        .map_err(|why| cannot(host, b"read", b"standard input", &why))?;
+    let size = read_whole(&mut host.reader(), &mut input).map_err(|why| cannot(
+        host,
+        b"read",
+        b"standard input",
+        &why,
+    ))?;
     list(host, &input[..size])
 }
 
