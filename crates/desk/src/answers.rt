@@ -1,6 +1,5 @@
 // What the calls answer, written for a reader.
 use super::output::Output;
-use normal::grade_number;
 use search::Best;
 use std::fmt::Write;
 use streams::{Failure, Host};
@@ -13,16 +12,10 @@ pub(crate) fn put_value<H: Host>(output: &mut Output<'_, H>, value: u64) -> Resu
 }
 
 // What a search found.
-pub(crate) fn put_best<H: Host>(
-    output: &mut Output<'_, H>,
-    best: Option<Best>,
-) -> Result<(), Failure> {
-    let Some(best) = best else {
-        return output.put(b"nothing\n");
-    };
+pub(crate) fn put_best<H: Host>(output: &mut Output<'_, H>, best: Best) -> Result<(), Failure> {
     let element = output.shown(best.element);
     let complexity = best.complexity;
-    let grade = grade_number(best.grade);
+    let grade = u64::from(best.grade);
     let count = best.count;
     writeln!(
         output,

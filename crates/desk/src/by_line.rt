@@ -8,9 +8,9 @@ use super::converting::Conversion;
 use super::input::{Form, degree_named};
 use super::lines::{Lines, Stop};
 use super::output::Output;
-use super::refusing::{TOO_LARGE, refuse, refuse_line};
+use super::refusing::{refuse, refuse_line};
 use super::values::{list_space, put_values};
-use refusals::Refusal;
+use refusals::{Fault, Refusal};
 use std::fmt;
 use std::fmt::Write;
 use std::io::Read;
@@ -70,7 +70,7 @@ impl Part<'_> {
     {
         let place = refusal.place;
         match self.values.get(place) {
-            Some(value) if refusal.number == TOO_LARGE => {
+            Some(value) if refusal.fault == Fault::TooLarge => {
                 self.put_before::<C, H>(place, output)?;
                 let index = self.before.wrapping_add(place as u64);
                 Err(refuse_line(output.host, index, *value, degree_named(self.bytes)))

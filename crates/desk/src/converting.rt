@@ -11,7 +11,6 @@ use super::options::{MOST_WORDS, VALUES_AT};
 use super::refusing::refuse;
 use super::task::Task;
 use super::values::{list_space, put_values};
-use super::verdicts::checked;
 use refusals::Refusal;
 use std::io::Read;
 use streams::{Failure, Host, word_at};
@@ -37,7 +36,7 @@ impl Conversion for ToNormal {
     const USAGE: &'static str = "normal SHEET VALUE.., normal SHEET - or normal SHEET --from FILE";
 
     fn convert(bytes: &[u8], from: &[u64], into: &mut [u64]) -> Result<(), Refusal> {
-        checked(sheet::list_to_normal(bytes, from, into))
+        sheet::list_to_normal(bytes, from, into)
     }
 }
 
@@ -48,7 +47,7 @@ impl Conversion for ToPolynomial {
         "polynomial SHEET VALUE.., polynomial SHEET - or polynomial SHEET --from FILE";
 
     fn convert(bytes: &[u8], from: &[u64], into: &mut [u64]) -> Result<(), Refusal> {
-        checked(sheet::list_to_polynomial(bytes, from, into))
+        sheet::list_to_polynomial(bytes, from, into)
     }
 }
 

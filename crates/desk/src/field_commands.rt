@@ -4,9 +4,9 @@ use super::input::Polynomial;
 use super::refusing::refuse;
 use super::task::Task;
 use super::telling::refuse_for;
-use super::verdicts::{checked, searched, valued};
 use gf2::degree_of;
-use refusals::Value;
+use refusals::Refusal;
+use search::Search;
 use streams::{Failure, Host};
 
 impl<H: Host> Task<'_, H> {
@@ -20,15 +20,15 @@ impl<H: Host> Task<'_, H> {
 // Whether f is accepted; if not, its refusal with the cause.
 pub(crate) fn check<H: Host>(task: &mut Task<'_, H>) -> Result<(), Failure> {
     let [f] = task.polynomials::<1>("check F")?;
-    match checked(field::check(f)) {
+    match field::check(f) {
         Ok(()) => task.output.put(b"accepted\n"),
         Err(refusal) => Err(refuse_for(task.host(), refusal, causes::why_check(f))),
     }
 }
 
 // The value of a call that takes operands of any size, so that none is too large.
-fn answer<H: Host>(task: &mut Task<'_, H>, answer: Value) -> Result<(), Failure> {
-    match valued(answer) {
+fn answer<H: Host>(task: &mut Task<'_, H>, answer: Result<u64, Refusal>) -> Result<(), Failure> {
+    match answer {
         Ok(value) => put_value(&mut task.output, value),
         Err(refusal) => Err(refuse(task.host(), refusal)),
     }
@@ -51,8 +51,9 @@ pub(crate) fn trace<H: Host>(task: &mut Task<'_, H>) -> Result<(), Failure> {
 
 pub(crate) fn search<H: Host>(task: &mut Task<'_, H>) -> Result<(), Failure> {
     let [f, first, last] = task.polynomials::<3>("search F FIRST LAST")?;
-    match searched(search::search(f, first, last)) {
-        Ok(best) => put_best(&mut task.output, best),
-        Err(refusal) => Err(task.refuse(refusal, degree_of(f))),
+    match search::search(f, first, last) {
+        Search::Found(best) => put_best(&mut task.output, best),
+        Search::Nothing => task.output.put(b"nothing\n"),
+        Search::Refused(fault) => Err(task.refuse(Refusal::from(fault), degree_of(f))),
     }
 }

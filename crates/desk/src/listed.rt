@@ -3,8 +3,7 @@ use super::output::Output;
 use super::refusing::refuse;
 use super::telling::refuse_for;
 use listing::LISTING_ROOM;
-use normal::grade_number;
-use sheet::{Issued, RECORD, Row, Summary, polynomial_of, row_at};
+use sheet::{RECORD, Row, Summary, polynomial_of, row_at};
 use std::fmt;
 use std::fmt::Write;
 use streams::{Failure, Host};
@@ -34,7 +33,7 @@ fn put_rows<H: Host>(output: &mut Output<'_, H>, bytes: &[u8]) -> fmt::Result {
 // Complexity and grade, in words.
 fn put_kind<H: Host>(output: &mut Output<'_, H>, summary: Summary) -> fmt::Result {
     let complexity = summary.complexity;
-    let grade = grade_number(summary.grade);
+    let grade = u64::from(summary.grade);
     writeln!(output, "complexity {complexity} grade {grade}")
 }
 
@@ -44,8 +43,8 @@ pub(crate) fn answer_listing<H: Host>(
     bytes: &[u8],
 ) -> Result<(), Failure> {
     match sheet::read(bytes) {
-        Issued::Refused(refusal) => Err(refuse_for(output.host, refusal, causes::why(bytes))),
-        Issued::Done(summary) => {
+        Err(refusal) => Err(refuse_for(output.host, refusal, causes::why(bytes))),
+        Ok(summary) => {
             if !output.hex {
                 return put_listing(output, bytes);
             }
@@ -77,8 +76,8 @@ pub(crate) fn answer_verify<H: Host>(
     bytes: &[u8],
 ) -> Result<(), Failure> {
     match sheet::read(bytes) {
-        Issued::Refused(refusal) => Err(refuse(output.host, refusal)),
-        Issued::Done(summary) => {
+        Err(refusal) => Err(refuse(output.host, refusal)),
+        Ok(summary) => {
             let f = polynomial_of(bytes);
             let row = row_at(bytes, 0);
             put_accepted(output, f, row.conjugate, summary)

@@ -25,7 +25,6 @@ mod sheet_commands;
 mod task;
 mod telling;
 mod values;
-mod verdicts;
 
 use command::Command;
 use complaints::{Fault, bad_word, bad_words};

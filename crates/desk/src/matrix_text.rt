@@ -8,7 +8,6 @@ use super::listed::put_accepted;
 use super::output::Output;
 use super::refusing::refuse;
 use super::task::Task;
-use super::verdicts::issued;
 use gf2::LIMIT;
 use matrices::{TEXT_LIMIT, read_matrices, text_size, write_matrices};
 use streams::{Failure, Host};
@@ -40,7 +39,7 @@ pub(crate) fn answer_matrices<H: Host>(
     bytes: &[u8],
 ) -> Result<(), Failure> {
     let mut text = text_space();
-    match issued(write_matrices(bytes, &mut text)) {
+    match write_matrices(bytes, &mut text) {
         Ok(summary) => output.put(&text[..size_for(summary.degree as usize)]),
         Err(refusal) => Err(refuse(output.host, refusal)),
     }
@@ -63,7 +62,7 @@ pub(crate) fn read<H: Host>(task: &mut Task<'_, H>) -> Result<(), Failure> {
     let [f, element] = task.values::<Polynomial, 2>(1)?;
     let mut space = text_space();
     let text = read_text(task, &mut space)?;
-    match issued(read_matrices(f, element, text)) {
+    match read_matrices(f, element, text) {
         Ok(summary) => put_accepted(&mut task.output, f, element, summary),
         Err(refusal) => Err(task.refuse_text(refusal, text, f)),
     }

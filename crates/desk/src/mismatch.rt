@@ -5,13 +5,10 @@ use super::lines::NEWLINE;
 use super::refusing::refused;
 use super::task::Task;
 use gf2::degree_of;
-use refusals::Refusal;
+use refusals::{Fault, Refusal};
 use std::fmt;
 use std::fmt::Write;
 use streams::{Failure, Host};
-
-// The refusal of a text that does not match.
-const NO_MATCH: u8 = 14;
 
 // The lines of a text that have their end.
 fn line_count(text: &[u8]) -> usize {
@@ -54,7 +51,7 @@ impl<H: Host> Errors<'_, H> {
     }
 
     fn mismatch(&mut self, refusal: Refusal, text: &[u8], n: u32) -> fmt::Result {
-        self.begin(refusal.number, refusal.place as u64)?;
+        self.begin(refusal.fault, refusal.place as u64)?;
         self.write_str("the line at this place, counted from 0, is ")?;
         self.difference(text, refusal.place, n)?;
         self.write_str("; desk build F ELEMENT | desk matrices writes the right text\n")
@@ -65,7 +62,7 @@ impl<H: Host> Task<'_, H> {
     // A refusal of a text for the f and the element that stand on the command line.
     pub(crate) fn refuse_text(&self, refusal: Refusal, text: &[u8], f: u64) -> Failure {
         let degree = degree_of(f);
-        if refusal.number != NO_MATCH {
+        if refusal.fault != Fault::OtherText {
             return self.refuse(refusal, degree);
         }
         refused(Errors(self.host()).mismatch(refusal, text, degree))

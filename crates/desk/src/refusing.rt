@@ -4,37 +4,10 @@ use super::input::{Form, Polynomial, word_space};
 use super::options::VALUES_AT;
 use super::task::Task;
 use gf2::degree_of;
-use refusals::Refusal;
+use refusals::{Fault, Refusal};
 use std::fmt;
 use std::fmt::Write;
 use streams::{Failure, Host, word_at};
-
-// The refusal of a candidate for a basis, coordinates or a range end with more bits than the degree.
-pub(crate) const TOO_LARGE: u8 = 4;
-
-// What document 01's table says of a refusal, and document 02 of 13. The element of 4 is a candidate for a basis, since operands may
-// arrive unreduced (document 02, §6). Refusal 14 has words of its own, in mismatch.rt. A number that neither document has is told as
-// such.
-pub(crate) fn meaning_of(number: u8) -> &'static str {
-    match number {
-        1 => "the degree of f is not 2 to 46",
-        2 => "a polynomial of smaller degree, other than 1, divides f",
-        3 => "squaring x as many times as the degree of f does not bring it back",
-        4 => "a candidate element, coordinate number or range end has more bits than the degree",
-        5 => "the element is not normal",
-        6 => "the buffer is shorter than the sheet or the text",
-        7 => "the sheet's length is not 32 bytes times a count of 2 to 46",
-        8 => {
-            "the record at this place does not fit in: its degree, its row number or its polynomial"
-        }
-        9 => "the record at this place has a polynomial or a row with more bits than the degree",
-        10 => "the record at this place is not the one that the polynomial and the element give",
-        11 => "the lists differ in length or have more than 4096 values",
-        12 => "the first of the range is greater than the last",
-        13 => "the divisor, or the number to invert, is zero",
-        _ => "a number that this program has no meaning for",
-    }
-}
 
 // What a command ends with that is refused, if the line on it was written. One that could not be is no refusal that anybody was told of.
 pub(crate) fn refused(told: fmt::Result) -> Failure {
@@ -46,15 +19,14 @@ pub(crate) fn refused(told: fmt::Result) -> Failure {
 
 impl<H: Host> Errors<'_, H> {
     // The number and the place.
-    pub(crate) fn begin(&mut self, number: u8, place: u64) -> fmt::Result {
+    pub(crate) fn begin(&mut self, fault: Fault, place: u64) -> fmt::Result {
+        let number = fault.number();
         write!(self, "refused {number} {place}: ")
     }
 
-    // The line on a refusal that no word of the command line stands behind.
+    // The line on a refusal that no word of the command line stands behind. Refusal 14 has words of its own, in mismatch.rt.
     pub(crate) fn refusal(&mut self, refusal: Refusal) -> fmt::Result {
-        self.begin(refusal.number, refusal.place as u64)?;
-        self.write_str(meaning_of(refusal.number))?;
-        self.write_str("\n")
+        writeln!(self, "refused {refusal}")
     }
 
     // The end of a line on a number that is too large: why, and what it must be.
@@ -91,10 +63,10 @@ impl<H: Host> Task<'_, H> {
     // The line on a refusal of values that stand on the command line. One for a value that is too large names its word.
     pub(crate) fn say_refusal(&self, refusal: Refusal, degree: u32) -> fmt::Result {
         let mut errors = Errors(self.host());
-        if refusal.number != TOO_LARGE {
+        if refusal.fault != Fault::TooLarge {
             return errors.refusal(refusal);
         }
-        errors.begin(refusal.number, refusal.place as u64)?;
+        errors.begin(refusal.fault, refusal.place as u64)?;
         errors.word(self.first_exceeding(degree))?;
         errors.degree(degree)
     }
@@ -107,7 +79,7 @@ impl<H: Host> Task<'_, H> {
 fn say_line<H: Host>(host: &H, place: u64, value: u64, degree: u32) -> fmt::Result {
     let mut errors = Errors(host);
     let line = place.wrapping_add(1);
-    errors.begin(TOO_LARGE, place)?;
+    errors.begin(Fault::TooLarge, place)?;
     write!(errors, "line {line}: {value}")?;
     errors.degree(degree)
 }

@@ -7,9 +7,8 @@ use super::matrix_text::answer_matrices;
 use super::output::Output;
 use super::task::Task;
 use super::telling::answer_why;
-use super::verdicts::{issued, valued};
 use gf2::{LIMIT, degree_of};
-use refusals::Value;
+use refusals::Refusal;
 use sheet::RECORD;
 use streams::{Failure, Host};
 
@@ -22,7 +21,7 @@ fn build_words<'s, H: Host>(
     space: &'s mut [u8; SHEET_ROOM],
 ) -> Result<&'s [u8], Failure> {
     let [f, element] = task.values::<Polynomial, 2>(1)?;
-    match issued(sheet::build(f, element, space)) {
+    match sheet::build(f, element, space) {
         Ok(summary) => {
             let size = io::count((RECORD * summary.degree as usize) as isize, space);
             Ok(&space[..size])
@@ -117,7 +116,7 @@ impl<H: Host> Task<'_, H> {
 }
 
 // What is worked out of normal coordinates through the sheet of word 1.
-fn compute<H: Host, F: FnOnce(&[u8]) -> Value>(
+fn compute<H: Host, F: FnOnce(&[u8]) -> Result<u64, Refusal>>(
     task: &mut Task<'_, H>,
     work: F,
 ) -> Result<(), Failure>
@@ -125,7 +124,7 @@ fn compute<H: Host, F: FnOnce(&[u8]) -> Value>(
 {
     let mut space = [0u8; INPUT_ROOM];
     let bytes = task.read_sheet(&mut space)?;
-    match valued(work(bytes)) {
+    match work(bytes) {
         Ok(value) => put_value(&mut task.output, value),
         Err(refusal) => Err(task.refuse(refusal, degree_named(bytes))),
     }

@@ -3,13 +3,13 @@ ghost use Rattle.sheet.specs.Orders.{Shaped};
 
 use super::complaints::Errors;
 use super::output::Output;
-use super::refusing::{meaning_of, refused};
+use super::refusing::refused;
 use super::task::Task;
 use causes::{Cause, Difference, Field, is_of_shape};
 use gf2::degree_of;
 use listing::{CAUSE_ROOM, put_cause};
 use refusals::Refusal;
-use sheet::{Issued, polynomial_of, row_at};
+use sheet::{polynomial_of, row_at};
 use std::fmt;
 use std::fmt::Write;
 use streams::{Failure, Host};
@@ -66,13 +66,13 @@ fn names_of(bytes: &[u8]) -> Named
 // The same of any sheet. One that is refused for its shape names nothing that a sentence could speak of.
 fn names_in(bytes: &[u8]) -> Result<Named, Refusal> {
     match sheet::read(bytes) {
-        Issued::Refused(refusal) => {
-            if is_of_shape(refusal.number) {
+        Err(refusal) => {
+            if is_of_shape(refusal.fault.number()) {
                 return Err(refusal);
             }
             Ok(names_of(bytes))
         }
-        Issued::Done(_) => Ok(names_of(bytes)),
+        Ok(_) => Ok(names_of(bytes)),
     }
 }
 
@@ -139,7 +139,7 @@ fn put_reason<H: Host>(output: &mut Output<'_, H>, named: Named, cause: Cause) -
             put_names(output, "the sheet is the one that", named)?;
             output.write_str(" give")
         }
-        Cause::Refused(refusal) => output.write_str(meaning_of(refusal.number)),
+        Cause::Refused(refusal) => write!(output, "{}", refusal.fault),
         Cause::Divisor(divisor) => put_divisor(output, named, divisor),
         Cause::Became(element) => put_became(output, named, element),
         Cause::Dependency(set) => put_dependency(output, named, set),
@@ -150,7 +150,7 @@ fn put_reason<H: Host>(output: &mut Output<'_, H>, named: Named, cause: Cause) -
 fn put_sentence<H: Host>(output: &mut Output<'_, H>, bytes: &[u8]) -> fmt::Result {
     match names_in(bytes) {
         Ok(named) => put_reason(output, named, causes::why(bytes))?,
-        Err(refusal) => output.write_str(meaning_of(refusal.number))?,
+        Err(refusal) => write!(output, "{}", refusal.fault)?,
     }
     output.write_str("\n")
 }
@@ -158,14 +158,14 @@ fn put_sentence<H: Host>(output: &mut Output<'_, H>, bytes: &[u8]) -> fmt::Resul
 // Why reading refuses a sheet, or that it accepts it, in one sentence.
 pub(crate) fn answer_why<H: Host>(output: &mut Output<'_, H>, bytes: &[u8]) -> Result<(), Failure> {
     match sheet::read(bytes) {
-        Issued::Refused(refusal) => {
-            let number = refusal.number;
+        Err(refusal) => {
+            let number = refusal.fault.number();
             let place = refusal.place;
             write!(output, "refused {number} {place}: ")?;
             put_sentence(output, bytes)?;
             Err(Failure::Refused)
         }
-        Issued::Done(_) => {
+        Ok(_) => {
             output.put(b"accepted: ")?;
             put_sentence(output, bytes)?;
             Ok(())

@@ -4,9 +4,9 @@ use Rattle.sheet.proofs.Answered.{done-shaped}
 use Rattle.desk.proofs.listed.answer_verify.Goals as goal
 
 pub polynomial_of-f-requires : goal.polynomial_of-f-requires
-polynomial_of-f-requires g c = done-shaped c.args.bytes.now _ (sym c.read.ensures.answer ∙ c.in-Done.is)
+polynomial_of-f-requires g c = done-shaped c.args.bytes.now _ (sym c.read.ensures.answer ∙ c.in-Ok.is)
 
 pub row_at-row-requires : goal.row_at-row-requires
 row_at-row-requires g c =
-    let z = done-shaped c.args.bytes.now c.in-Done.summary (sym c.read.ensures.answer ∙ c.in-Done.is) in
+    let z = done-shaped c.args.bytes.now c.in-Ok.summary (sym c.read.ensures.answer ∙ c.in-Ok.is) in
     omega (arith, z.size.two)
