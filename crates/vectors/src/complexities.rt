@@ -1,5 +1,6 @@
 // The least complexity of a normal basis, a line for each degree 2 to 20: source document 000's normal basis column, divided by the degree.
 use super::answers::TableRow;
+use search::Search;
 use std::io;
 
 // A polynomial that is accepted, for each degree from 2 on.
@@ -11,8 +12,8 @@ const FIELDS: [u64; 19] = [
 // The least complexity in a whole field, or 0, which no basis has. A line shows it as a number, so an Option would be taken apart there.
 fn least_complexity(f: u64, last: u64) -> u64 {
     match search::search(f, 0, last) {
-        Ok(Some(best)) => u64::from(best.complexity),
-        Ok(None) | Err(_) => 0,
+        Search::Found(best) => u64::from(best.complexity),
+        Search::Refused(_) | Search::Nothing => 0,
     }
 }
 

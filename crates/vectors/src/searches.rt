@@ -1,18 +1,18 @@
 // The searches at f = 19.
-use normal::grade_number;
+use search::Search;
 use std::io;
 
 // What the search of a range answers.
 pub(crate) fn print_search(rt: &impl Print, f: u64, first: u64, last: u64) -> io::Result<()> {
     print!(rt; "f = {f}, search {first} to {last}: ")?;
     match search::search(f, first, last) {
-        Err(refusal) => println!(rt; "refusal {}", refusal.fault.number()),
-        Ok(None) => println!(rt; "nothing"),
-        Ok(Some(best)) => println!(rt;
+        Search::Refused(fault) => println!(rt; "refusal {}", fault.number()),
+        Search::Nothing => println!(rt; "nothing"),
+        Search::Found(best) => println!(rt;
             "{}, complexity {}, grade {}, count {}",
             best.element,
             best.complexity,
-            grade_number(best.grade),
+            u64::from(best.grade),
             best.count
         ),
     }
