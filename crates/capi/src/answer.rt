@@ -9,7 +9,6 @@ ghost use Rattle.causes.specs.declared.answer.Cause.TheVariants as cause;
 ghost use Rattle.capi.specs.Answers.{desk_value, desk_issued, desk_found, desk_cause, desk_word, found_flag};
 
 use causes::{Cause, Difference};
-use normal::grade_number;
 use refusals::Refusal;
 use search::Search;
 use sheet::Summary;
@@ -118,7 +117,7 @@ impl From<Result<Summary, Refusal>> for DeskIssued {
                 place: 0,
                 degree: summary.degree as u64,
                 complexity: summary.complexity as u64,
-                grade: grade_number(summary.grade),
+                grade: u64::from(summary.grade),
             },
             Err(refusal) => DeskIssued {
                 number: refusal.fault.number() as u64,
@@ -158,7 +157,7 @@ impl From<Search> for DeskFound {
                 found: 1,
                 element: best.element,
                 complexity: best.complexity as u64,
-                grade: grade_number(best.grade),
+                grade: u64::from(best.grade),
                 count: best.count,
             },
         }

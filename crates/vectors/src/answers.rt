@@ -1,5 +1,4 @@
 // What the calls answer, and how a line shows it.
-use normal::grade_number;
 use refusals::Refusal;
 use sheet::Summary;
 use std::fmt;
@@ -34,7 +33,7 @@ pub(crate) struct Graded(pub Summary);
 
 impl fmt::Display for Graded {
     fn fmt<W: fmt::Write>(&self, f: &mut fmt::Formatter<W>) -> fmt::Result {
-        let grade = grade_number(self.0.grade);
+        let grade = u64::from(self.0.grade);
         write!(f, "complexity {}, grade {grade}", self.0.complexity)
     }
 }

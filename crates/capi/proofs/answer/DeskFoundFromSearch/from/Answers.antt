@@ -20,4 +20,4 @@ returns-in-Nothing c = c.not_found-in-Nothing.ensures ∙ of-case c.in-Nothing.i
 
 pub returns-in-Found : goal.returns-in-Found
 unfolding found_flag case_report
-returns-in-Found c = rw c.grade_number.ensures (of-case c.in-Found.is)
+returns-in-Found c = rw c.from.ensures (of-case c.in-Found.is)

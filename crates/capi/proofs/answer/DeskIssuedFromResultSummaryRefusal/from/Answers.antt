@@ -10,7 +10,7 @@ use Rattle.capi.proofs.answer.DeskIssuedFromResultSummaryRefusal.from.Goals as g
 
 pub returns-in-Ok : goal.returns-in-Ok
 unfolding issued_report
-returns-in-Ok c = rw c.grade_number.ensures (sym (ap (λ (a : Result Summary Refusal). desk_issued (issued_report a)) c.in-Ok.is))
+returns-in-Ok c = rw c.from.ensures (sym (ap (λ (a : Result Summary Refusal). desk_issued (issued_report a)) c.in-Ok.is))
 
 pub returns-in-Err : goal.returns-in-Err
 unfolding issued_report
