@@ -28,13 +28,15 @@ const SPREAD: [u16; 256] = [
 // The table as a value, whose entries are known to be the spreads.
 #[derive(Drop)]
 pub struct Spread {
-    entries: [u16; 256],
-    ghost rule: { SpreadTable entries },
+    pub entries: [u16; 256],
+    pub ghost rule: { SpreadTable entries },
 }
 
 impl Spread {
     // A constant is laid out anew wherever it is indexed: whoever squares more than once takes the table into a local and lends that.
-    pub fn new() -> Self {
+    pub fn new() -> Self
+        ensures { SpreadTable result.entries }
+    {
         Spread { entries: SPREAD }
     }
 
