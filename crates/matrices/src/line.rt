@@ -33,12 +33,12 @@ pub fn digit(row: u64, bit: usize) -> u8
 pub struct RowsTwice {
     pub rows: [u64; ROWS_TWICE],
     pub n: usize,
-    ghost in_range: { (1 ≤ n) × (n ≤ limit) },
+    ghost in_range: { n ≤ limit },
 }
 
 // The rows of a table, twice over.
 pub fn rows_twice(table: &[u64; LIMIT], n: usize) -> RowsTwice
-    requires { (1 ≤ n) × (n ≤ limit) }
+    requires { n ≤ limit }
     ensures count { result.n ≡ n }
     ensures rows { Twice n table.now result.rows }
 {

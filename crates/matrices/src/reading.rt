@@ -77,6 +77,7 @@ impl RowsTwice {
 
     // 14, with the first line that is wrong, missing or too many.
     fn match_verdict(&self, text: &[u8]) -> Result<(), Refusal>
+        requires { 1 ≤ self.now.n }
         ensures { result ≡ checked_of (first_of (match_rule text.now (text_bytes self.now.n (turned self.now.n self.now.rows)) ∷ [])) }
     {
         let n = self.n;

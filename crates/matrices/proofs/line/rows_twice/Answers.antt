@@ -14,4 +14,4 @@ pub bounds-rows-n : goal.bounds-rows-n
 bounds-rows-n c = omega (arith, c.requires, length-set c.loop-i.rows c.loop-i.i (get_or c.args.table.now c.loop-i.i 0), c.loop-i.invariant.size)
 
 pub loop-i-preserved : goal.loop-i-preserved
-loop-i-preserved c = copied_next c.args.n c.loop-i.i c.args.table.now c.loop-i.rows c.requires.1 c.loop-i-test.true c.loop-i.invariant
+loop-i-preserved c = copied_next c.args.n c.loop-i.i c.args.table.now c.loop-i.rows c.requires c.loop-i-test.true c.loop-i.invariant

@@ -28,7 +28,10 @@ returns-in-Err c =
     ap Err c.from.ensures ∙ answer-refused Err _ (normal-refused f n a (match_rule c.args.text.now (matrices_text f n a) ∷ []) c.in-Err.ensures)
 
 pub rows_twice-rows-requires : goal.rows_twice-rows-requires
-rows_twice-rows-requires c = (omega (arith, c.requires.0.in_range.two), c.requires.0.in_range.most)
+rows_twice-rows-requires c = c.requires.0.in_range.most
+
+pub match_verdict-requires : goal.match_verdict-requires
+match_verdict-requires c = rw c.rows_twice-rows.ensures.count (omega (arith, c.requires.0.in_range.two))
 
 pub summary_of-requires : goal.summary_of-requires
 summary_of-requires c = c.requires.0

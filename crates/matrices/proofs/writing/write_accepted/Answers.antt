@@ -25,9 +25,7 @@ pub load_rows-table-requires : goal.load_rows-table-requires
 load_rows-table-requires c = (done-shaped c.args.sheet.now c.args.summary c.requires, omega arith)
 
 pub rows_twice-rows-requires : goal.rows_twice-rows-requires
-rows_twice-rows-requires c =
-    let d = (done-shaped c.args.sheet.now c.args.summary c.requires).size in
-    (omega (arith, d.two), d.most)
+rows_twice-rows-requires c = (done-shaped c.args.sheet.now c.args.summary c.requires).size.most
 
 pub put_text-requires : goal.put_text-requires
 put_text-requires c = rw c.rows_twice-rows.ensures.count (omega (arith, c.text_size.ensures, c.if-text-text_size.false))

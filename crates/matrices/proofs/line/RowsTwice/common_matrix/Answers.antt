@@ -22,7 +22,7 @@ counted false e = e
 
 -- the bytes before a line are few
 few : (l : At-loop-i) → l.loop-i.i * (l.args.self.now.n + 1) ≤ limit * (limit + 1)
-few l = lines-size-most limit l.args.self.now.n l.loop-i.i l.args.self.now.in_range.1 l.loop-i.auto.i-end
+few l = lines-size-most limit l.args.self.now.n l.loop-i.i l.args.self.now.in_range l.loop-i.auto.i-end
 
 pub loop-i-init : goal.loop-i-init
 loop-i-init c =
@@ -36,8 +36,8 @@ overflow_add-at c = omega (arith, few (goal.at.overflow_add-at c).At-loop-i, c.r
 
 pub common_line-requires : goal.common_line-requires
 common_line-requires c =
-    let b : (c.args.k + (c.args.self.now.n - c.loop-i.i)) % c.args.self.now.n < c.args.self.now.n = mod-lt (c.args.k + (c.args.self.now.n - c.loop-i.i)) c.args.self.now.in_range.0 in
-    (omega (arith, c.args.self.now.in_range.1, c.loop-i.auto.i-end), omega (arith, b, c.args.self.now.in_range.1), omega (arith, few (goal.at.common_line-requires c).At-loop-i, c.args.self.now.in_range.1, c.requires.1))
+    let b : (c.args.k + (c.args.self.now.n - c.loop-i.i)) % c.args.self.now.n < c.args.self.now.n = mod-lt (c.args.k + (c.args.self.now.n - c.loop-i.i)) (omega (arith, c.requires.0)) in
+    (omega (arith, c.args.self.now.in_range, c.loop-i.auto.i-end), omega (arith, b, c.args.self.now.in_range), omega (arith, few (goal.at.common_line-requires c).At-loop-i, c.args.self.now.in_range, c.requires.1))
 
 pub returns-then-not-common_line : goal.returns-then-not-common_line
 returns-then-not-common_line c =
@@ -51,16 +51,16 @@ loop-i-preserved c =
     (λ z. omega (arith, one, z))
 
 pub overflow_mul-n : goal.overflow_mul-n
-overflow_mul-n c = omega (arith, lines-size-most limit c.args.self.now.n c.args.self.now.n c.args.self.now.in_range.1 (omega arith))
+overflow_mul-n c = omega (arith, lines-size-most limit c.args.self.now.n c.args.self.now.n c.args.self.now.in_range (omega arith))
 
 pub overflow_add-at-2 : goal.overflow_add-at-2
 overflow_add-at-2 c =
-    omega (arith, lines-size-most limit c.args.self.now.n c.args.self.now.n c.args.self.now.in_range.1 (omega arith), c.requires.1)
+    omega (arith, lines-size-most limit c.args.self.now.n c.args.self.now.n c.args.self.now.in_range (omega arith), c.requires.1)
 
 pub overflow_add-result : goal.overflow_add-result
 overflow_add-result c =
     let e : c.loop-i.i ≡ c.args.self.now.n = omega arith in
-    omega (arith, matrix_end c.args.text.now c.args.at c.args.self.now.n (turned c.args.self.now.n c.args.self.now.rows c.args.k) (rw e at c.loop-i.invariant) c.from.result (counted c.common_end.result c.from.ensures ∙ c.common_end.ensures), matrix_most c.args.text.now c.args.at c.args.self.now.n (turned c.args.self.now.n c.args.self.now.rows c.args.k), c.args.self.now.in_range.1)
+    omega (arith, matrix_end c.args.text.now c.args.at c.args.self.now.n (turned c.args.self.now.n c.args.self.now.rows c.args.k) (rw e at c.loop-i.invariant) c.from.result (counted c.common_end.result c.from.ensures ∙ c.common_end.ensures), matrix_most c.args.text.now c.args.at c.args.self.now.n (turned c.args.self.now.n c.args.self.now.rows c.args.k), c.args.self.now.in_range)
 
 pub returns : goal.returns
 returns c =

@@ -19,7 +19,7 @@ place l = ap (λ (x : ℕ). l.loop-k.k * x) l.matrix_size-size.ensures
 -- which is low
 low : (l : At-loop-k) → l.loop-k.k * l.matrix_size-size.result ≤ limit * (limit * (limit + 1) + 1)
 low l =
-    omega (arith, place l, text_size-most limit l.args.self.now.n l.loop-k.k l.args.self.now.in_range.1 l.loop-k.auto.k-end)
+    omega (arith, place l, text_size-most limit l.args.self.now.n l.loop-k.k l.args.self.now.in_range l.loop-k.auto.k-end)
 
 -- what the comparison of a matrix found, at its place
 found : (c : After-common_matrix-lines)
@@ -38,11 +38,11 @@ common_matrix-lines-requires c =
     (c.loop-k-test.true, omega (arith, low (goal.at.common_matrix-lines-requires c).At-loop-k))
 
 pub overflow_mul-result : goal.overflow_mul-result
-overflow_mul-result c = omega (arith, lines-size-most limit c.args.self.now.n c.loop-k.k c.args.self.now.in_range.1 c.loop-k.auto.k-end)
+overflow_mul-result c = omega (arith, lines-size-most limit c.args.self.now.n c.loop-k.k c.args.self.now.in_range c.loop-k.auto.k-end)
 
 pub overflow_add-result-then-lines-n : goal.overflow_add-result-then-lines-n
 overflow_add-result-then-lines-n c =
-    omega (arith, lines-size-most limit c.args.self.now.n c.loop-k.k c.args.self.now.in_range.1 c.loop-k.auto.k-end, c.if-lines-n.true, c.args.self.now.in_range.1)
+    omega (arith, lines-size-most limit c.args.self.now.n c.loop-k.k c.args.self.now.in_range c.loop-k.auto.k-end, c.if-lines-n.true, c.args.self.now.in_range)
 
 pub returns-then-lines-n : goal.returns-then-lines-n
 returns-then-lines-n c =
@@ -53,7 +53,7 @@ loop-k-preserved c =
     text_next c.args.text.now c.args.self.now.n (turned c.args.self.now.n c.args.self.now.rows) c.loop-k.k c.loop-k-test.true c.loop-k.invariant c.common_matrix-lines.result (found (goal.at.loop-k-preserved c).After-common_matrix-lines) (omega (arith, c.if-lines-n.false))
 
 pub overflow_mul-result-2 : goal.overflow_mul-result-2
-overflow_mul-result-2 c = omega (arith, lines-size-most limit c.args.self.now.n c.args.self.now.n c.args.self.now.in_range.1 (omega arith))
+overflow_mul-result-2 c = omega (arith, lines-size-most limit c.args.self.now.n c.args.self.now.n c.args.self.now.in_range (omega arith))
 
 pub returns : goal.returns
 returns c =

@@ -16,7 +16,7 @@ use Rattle.std.specs.Prelude.{Err}
 use Rattle.refusals.specs.Answers.{passed}
 
 pub overflow_mul-n : goal.overflow_mul-n
-overflow_mul-n c = omega (arith, lines-size-most limit c.args.self.now.n c.args.self.now.n c.args.self.now.in_range.1 (omega arith))
+overflow_mul-n c = omega (arith, lines-size-most limit c.args.self.now.n c.args.self.now.n c.args.self.now.in_range (omega arith))
 
 pub returns-then-lines-n : goal.returns-then-lines-n
 returns-then-lines-n c =
@@ -29,4 +29,4 @@ returns-then-text-text_size c =
 pub returns : goal.returns
 returns c =
     let most : line_count c.args.self.now.n ≤ common_lines c.args.text.now (text_bytes c.args.self.now.n (turned c.args.self.now.n c.args.self.now.rows)) = omega (arith, c.common_text-lines.ensures, c.if-lines-n.false) in
-    answer-clear Err passed (match_whole c.args.self.now.n c.args.self.now.in_range.0 (turned c.args.self.now.n c.args.self.now.rows) c.args.text.now most (c.if-text-text_size.false ∙ c.text_size.ensures))
+    answer-clear Err passed (match_whole c.args.self.now.n c.requires (turned c.args.self.now.n c.args.self.now.rows) c.args.text.now most (c.if-text-text_size.false ∙ c.text_size.ensures))

@@ -32,22 +32,22 @@ loop-i-init c =
     lines_none c.args.text.now c.args.at c.args.self.now.n (turned c.args.self.now.n c.args.self.now.rows c.args.k) c.requires.1
 
 pub overflow_mul-i : goal.overflow_mul-i
-overflow_mul-i c = omega (arith, lines-size-most limit c.args.self.now.n c.loop-i.i c.args.self.now.in_range.1 c.loop-i.auto.i-end)
+overflow_mul-i c = omega (arith, lines-size-most limit c.args.self.now.n c.loop-i.i c.args.self.now.in_range c.loop-i.auto.i-end)
 
 pub overflow_add-at : goal.overflow_add-at
 overflow_add-at c = omega (arith, within (goal.at.overflow_add-at c).At-loop-i, c.requires.1)
 
 pub put_line-requires : goal.put_line-requires
 put_line-requires c =
-    let b : (c.args.k + (c.args.self.now.n - c.loop-i.i)) % c.args.self.now.n < c.args.self.now.n = mod-lt (c.args.k + (c.args.self.now.n - c.loop-i.i)) c.args.self.now.in_range.0 in
-    (omega (arith, c.args.self.now.in_range.1, c.loop-i.auto.i-end), omega (arith, b, c.args.self.now.in_range.1), omega (arith, kept (goal.at.put_line-requires c).At-loop-i, beyond (goal.at.put_line-requires c).At-loop-i c.loop-i-test.true, c.requires.1))
+    let b : (c.args.k + (c.args.self.now.n - c.loop-i.i)) % c.args.self.now.n < c.args.self.now.n = mod-lt (c.args.k + (c.args.self.now.n - c.loop-i.i)) (omega (arith, c.requires.0)) in
+    (omega (arith, c.args.self.now.in_range, c.loop-i.auto.i-end), omega (arith, b, c.args.self.now.in_range), omega (arith, kept (goal.at.put_line-requires c).At-loop-i, beyond (goal.at.put_line-requires c).At-loop-i c.loop-i-test.true, c.requires.1))
 
 pub loop-i-preserved : goal.loop-i-preserved
 loop-i-preserved c =
     lines_next c.args.text.now c.args.at c.args.self.now.n (turned c.args.self.now.n c.args.self.now.rows c.args.k) c.requires.1 c.loop-i.i c.loop-i.text c.loop-i.invariant (within (goal.at.loop-i-preserved c).At-loop-i) c.put_line.new.text (unfold turned in c.put_line.ensures)
 
 pub overflow_mul-text : goal.overflow_mul-text
-overflow_mul-text c = omega (arith, lines-size-most limit c.args.self.now.n c.args.self.now.n c.args.self.now.in_range.1 (omega arith))
+overflow_mul-text c = omega (arith, lines-size-most limit c.args.self.now.n c.args.self.now.n c.args.self.now.in_range (omega arith))
 
 pub overflow_add-text-2 : goal.overflow_add-text-2
 overflow_add-text-2 c = omega (arith, c.requires.1)

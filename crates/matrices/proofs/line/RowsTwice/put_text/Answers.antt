@@ -46,7 +46,7 @@ loop-k-init c =
 
 pub overflow_mul-k : goal.overflow_mul-k
 overflow_mul-k c =
-    omega (arith, place (goal.at.overflow_mul-k c).At-loop-k, text_size-most limit c.args.self.now.n c.loop-k.k c.args.self.now.in_range.1 c.loop-k.auto.k-end)
+    omega (arith, place (goal.at.overflow_mul-k c).At-loop-k, text_size-most limit c.args.self.now.n c.loop-k.k c.args.self.now.in_range c.loop-k.auto.k-end)
 
 pub put_matrix-requires : goal.put_matrix-requires
 put_matrix-requires c =
