@@ -23,8 +23,8 @@ fn build_words<'s, H: Host>(
     let [f, element] = task.values::<Polynomial, 2>(1)?;
     match sheet::build(f, element, space) {
         Ok(summary) => {
-            let size = io::count((RECORD * summary.degree as usize) as isize, space);
-            Ok(&space[..size])
+            let size = RECORD * summary.degree as usize;
+            Ok(&space[..size.min(SHEET_ROOM)])
         }
         Err(refusal) => {
             Err(task.refuse_for(refusal, degree_of(f), causes::why_build(f, element)))

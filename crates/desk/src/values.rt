@@ -48,7 +48,8 @@ fn put_line(text: &mut [u8], at: usize, value: u64, hex: bool) -> usize
     put_number(text, at, value, NEWLINE)
 }
 
-// The lines of the values, put at the text's front; the result is their length.
+// The lines of the values, put at the text's front; the result is their length. The place in the text stays a number, as in listing's
+// put_number: a writer into the room would be no plainer, since it has an error to answer, which no line here can give.
 fn put_lines(text: &mut [u8], values: &[u64], hex: bool) -> usize
     requires { 21 * length values.now ≤ length text.old }
     ensures { IsPrefixLen result text.new }
