@@ -1,7 +1,8 @@
--- The field that f defines: definitions in `Field`, `Accepted`, `Refusals`, `Answers`, laws in the rest.
+-- The field that f defines: definitions in `Field`, `Accepted`, `Refusals`, `Judged`, `Answers`, laws in the rest.
 pub mod Field
 pub mod Accepted
 pub mod Refusals
+pub mod Judged
 pub mod Answers
 pub mod Ring
 pub mod Frobenius

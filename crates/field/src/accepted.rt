@@ -1,11 +1,12 @@
 // The conditions under which f is accepted, as the calls test them (document 01, "Two notations").
-ghost use Rattle.std.specs.Prelude.{◌≡◌, cond, ◌/◌, ◌<◌, Some, None};
+ghost use Rattle.std.specs.Prelude.{◌≡◌, cond, ◌/◌, ◌^◌, ◌<◌, Some, None};
 ghost use Rattle.refusals.specs.Verdicts.{first_of};
 ghost use Rattle.refusals.specs.Answers.{checked_of};
 ghost use Rattle.field.specs.Field.{squared};
-ghost use Rattle.field.specs.Accepted.{degree_outside, divided, InRange, Operand};
+ghost use Rattle.field.specs.Accepted.{degree_outside, divided};
 ghost use Rattle.field.specs.Refusals.{field_order, too_large_lem};
 
+use super::ring::Ring;
 use gf2::{LIMIT, Spread, degree_of, greatest_common, square};
 use refusals::{Fault, Refusal, refused};
 
@@ -26,42 +27,40 @@ pub fn too_large(n: u32, a: u64) -> bool
 }
 
 // a squared k times in a row.
-pub fn squared_times(table: &Spread, f: u64, n: u32, k: u32, a: u64) -> u64
-    requires { Operand f n a }
-    ensures { result ≡ squared f n k a }
+pub fn squared_times(table: &Spread, ring: Ring, k: u32, a: u64) -> u64
+    requires { a < 2 ^ ring.n }
+    ensures { result ≡ squared ring.f ring.n k a }
 {
     let mut y = a;
     for _ in 0..k {
-        y = square(table, f, n, y);
+        y = square(table, ring.f, ring.n, y);
     }
     y
 }
 
 // What x has become half way through its n squarings; nothing where f is divided. f, of degree n, has a divisor of degree 1 to n-1
 // exactly if, for some i from 1 to n/2, f and x^(2^i) + x have a common divisor other than 1.
-fn squared_half(table: &Spread, f: u64, n: u32) -> Option<u64>
-    requires { InRange f n }
-    ensures { result ≡ cond (divided f n) None (Some (squared f n (n / 2) 2)) }
+fn squared_half(table: &Spread, ring: Ring) -> Option<u64>
+    ensures { result ≡ cond (divided ring.f ring.n) None (Some (squared ring.f ring.n (ring.n / 2) 2)) }
 {
     let mut y: u64 = 2;
-    for _ in 0..n / 2 {
-        y = square(table, f, n, y);
-        if greatest_common(f, y ^ 2) != 1 {
+    for _ in 0..ring.n / 2 {
+        y = square(table, ring.f, ring.n, y);
+        if greatest_common(ring.f, y ^ 2) != 1 {
             return None;
         }
     }
     Some(y)
 }
 
-// The verdict of conditions 2 and 3 on f, of degree n.
-pub fn field_verdict(table: &Spread, f: u64, n: u32) -> Result<(), Refusal>
-    requires { InRange f n }
-    ensures { result ≡ checked_of (first_of (field_order f)) }
+// The verdict of conditions 2 and 3.
+pub fn field_verdict(table: &Spread, ring: Ring) -> Result<(), Refusal>
+    ensures { result ≡ checked_of (first_of (field_order ring.f)) }
 {
-    let Some(half) = squared_half(table, f, n) else {
+    let Some(half) = squared_half(table, ring) else {
         return refused(Fault::Divided);
     };
-    if squared_times(table, f, n, n - n / 2, half) != 2 {
+    if squared_times(table, ring, ring.n - ring.n / 2, half) != 2 {
         return refused(Fault::Strays);
     }
     Ok(())

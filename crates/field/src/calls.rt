@@ -4,19 +4,18 @@ ghost use Rattle.std.specs.Prelude.{◌≡◌};
 ghost use Rattle.gf2.specs.Poly.{rem, mul_mod};
 ghost use Rattle.refusals.specs.Answers.{value_report, checked_report};
 ghost use Rattle.field.specs.Field.{trace};
-ghost use Rattle.field.specs.Accepted.{InRange};
 ghost use Rattle.field.specs.Answers.{multiply_answer, multiply_report, square_answer, square_report, trace_answer, trace_report, check_answer, check_report};
 
-use super::judging::{check_verdict, degree_verdict};
-use gf2::{Spread, degree_of, element_of};
+use super::judging::check_verdict;
+use super::ring::Ring;
+use gf2::{Spread, element_of};
 use refusals::Refusal;
 
 // The product of the elements that two words stand for. `gf2::multiply` reduces its second operand itself.
-fn product(f: u64, n: u32, a: u64, b: u64) -> u64
-    requires { InRange f n }
-    ensures { result ≡ mul_mod f n (rem f n a) (rem f n b) }
+fn product(ring: Ring, a: u64, b: u64) -> u64
+    ensures { result ≡ mul_mod ring.f ring.n (rem ring.f ring.n a) (rem ring.f ring.n b) }
 {
-    gf2::multiply(f, n, element_of(f, n, a), b)
+    gf2::multiply(ring.f, ring.n, element_of(ring.f, ring.n, a), b)
 }
 
 // a times b modulo f.
@@ -24,17 +23,16 @@ pub fn multiply(f: u64, a: u64, b: u64) -> Result<u64, Refusal>
     ensures answer { result ≡ multiply_answer f a b }
     ensures report { value_report result ≡ multiply_report f a b }
 {
-    degree_verdict(f)?;
-    Ok(product(f, degree_of(f), a, b))
+    let ring = Ring::of(f)?;
+    Ok(product(ring, a, b))
 }
 
 // The square of the element that a word stands for, by the table of spreads.
-fn squared(f: u64, n: u32, a: u64) -> u64
-    requires { InRange f n }
-    ensures { result ≡ mul_mod f n (rem f n a) (rem f n a) }
+fn squared(ring: Ring, a: u64) -> u64
+    ensures { result ≡ mul_mod ring.f ring.n (rem ring.f ring.n a) (rem ring.f ring.n a) }
 {
     let table = Spread::new();
-    gf2::square(&table, f, n, element_of(f, n, a))
+    gf2::square(&table, ring.f, ring.n, element_of(ring.f, ring.n, a))
 }
 
 // a times a modulo f.
@@ -42,20 +40,19 @@ pub fn square(f: u64, a: u64) -> Result<u64, Refusal>
     ensures answer { result ≡ square_answer f a }
     ensures report { value_report result ≡ square_report f a }
 {
-    degree_verdict(f)?;
-    Ok(squared(f, degree_of(f), a))
+    let ring = Ring::of(f)?;
+    Ok(squared(ring, a))
 }
 
 // The sum of the n conjugates of the element that a word stands for.
-fn conjugates_sum(table: &Spread, f: u64, n: u32, a: u64) -> u64
-    requires { InRange f n }
-    ensures { result ≡ trace f n (rem f n a) }
+fn conjugates_sum(table: &Spread, ring: Ring, a: u64) -> u64
+    ensures { result ≡ trace ring.f ring.n (rem ring.f ring.n a) }
 {
     let mut sum: u64 = 0;
-    let mut y = element_of(f, n, a);
-    for _ in 0..n {
+    let mut y = element_of(ring.f, ring.n, a);
+    for _ in 0..ring.n {
         sum ^= y;
-        y = gf2::square(table, f, n, y);
+        y = gf2::square(table, ring.f, ring.n, y);
     }
     sum
 }
@@ -66,8 +63,8 @@ pub fn trace(f: u64, a: u64) -> Result<u64, Refusal>
     ensures report { value_report result ≡ trace_report f a }
 {
     let table = Spread::new();
-    check_verdict(&table, f)?;
-    Ok(conjugates_sum(&table, f, degree_of(f), a))
+    let ring = check_verdict(&table, f)?;
+    Ok(conjugates_sum(&table, ring, a))
 }
 
 // Whether f is accepted.
@@ -76,5 +73,6 @@ pub fn check(f: u64) -> Result<(), Refusal>
     ensures report { checked_report result ≡ check_report f }
 {
     let table = Spread::new();
-    check_verdict(&table, f)
+    check_verdict(&table, f)?;
+    Ok(())
 }

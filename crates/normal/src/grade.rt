@@ -1,11 +1,10 @@
 // The complexity of a basis (document 01, "What a sheet holds") and its grade (document 02, §3).
-ghost use Rattle.std.specs.Prelude.{◌≡◌, ◌≤◌, take};
+ghost use Rattle.std.specs.Prelude.{◌≡◌, ◌^◌, ◌≤◌, ◌<◌, take};
 ghost use Rattle.gf2.specs.Limit.{limit};
-ghost use Rattle.field.specs.Accepted.{Operand};
 ghost use Rattle.normal.specs.Normal.{complexity};
 ghost use Rattle.normal.specs.Grades.{kind_of, grade_of, grade_number};
 
-use field::element_power;
+use field::{Ring, element_power};
 use gf2::LIMIT;
 
 // The grades 0 to 3 (document 02, §3): not optimal, optimal of the first kind, of the second kind, of both.
@@ -30,14 +29,14 @@ pub fn complexity_of(rows: [u64; LIMIT], n: usize) -> u32
 }
 
 // Which kind of optimal basis the element a makes: of the first kind exactly if a to the power n + 1 is 1. At degree 2 it is of both.
-fn kind_of(f: u64, n: u32, a: u64) -> Grade
-    requires { Operand f n a }
-    ensures { result ≡ kind_of f n a }
+fn kind_of(ring: Ring, a: u64) -> Grade
+    requires { a < 2 ^ ring.n }
+    ensures { result ≡ kind_of ring.f ring.n a }
 {
-    if n == 2 {
+    if ring.n == 2 {
         return Grade::Three;
     }
-    if element_power(f, n, a, n + 1) == 1 {
+    if element_power(ring, a, ring.n + 1) == 1 {
         Grade::One
     } else {
         Grade::Two
@@ -45,14 +44,14 @@ fn kind_of(f: u64, n: u32, a: u64) -> Grade
 }
 
 // The grade of the basis of a, whose table has so many ones. Few elements are optimal, and the power is made for these alone.
-pub fn grade_of(f: u64, n: u32, a: u64, complexity: u32) -> Grade
-    requires { Operand f n a }
-    ensures { result ≡ grade_of f n a complexity }
+pub fn grade_of(ring: Ring, a: u64, complexity: u32) -> Grade
+    requires { a < 2 ^ ring.n }
+    ensures { result ≡ grade_of ring.f ring.n a complexity }
 {
-    if complexity != 2 * n - 1 {
+    if complexity != 2 * ring.n - 1 {
         return Grade::Zero;
     }
-    kind_of(f, n, a)
+    kind_of(ring, a)
 }
 
 // The documents' number of a grade.

@@ -54,27 +54,25 @@ module _ (f n : ℕ) (deg : Degree f n) (y : ℕ) (half : y ≡ squared f n (n /
 pub returns-in_default : goal.returns-in_default
 returns-in_default c =
     c.refused.ensures
-    ∙ ap checked_of (sym (field-divided c.args.f c.args.n (degree-eq _ _ c.requires.is_degree) (none-half c.args.f c.args.n (sym c.squared_half.ensures ∙ c.in_default.is))))
+    ∙ ap checked_of (sym (field-divided c.args.ring.f c.args.ring.n (degree-eq _ _ c.args.ring.in_range.is_degree) (none-half c.args.ring.f c.args.ring.n (sym c.squared_half.ensures ∙ c.in_default.is))))
 
 pub squared_times-requires : goal.squared_times-requires
 squared_times-requires c =
-    let s = some-half c.args.f c.args.n c.in-Some.half (sym c.squared_half.ensures ∙ c.in-Some.is) in record {
-      in_range = c.requires;
-      small = half_lt c.args.f c.args.n c.requires.is_degree c.in-Some.half s.1 c.requires.two;
-    }
+    let s = some-half c.args.ring.f c.args.ring.n c.in-Some.half (sym c.squared_half.ensures ∙ c.in-Some.is) in
+    half_lt c.args.ring.f c.args.ring.n c.args.ring.in_range.is_degree c.in-Some.half s.1 c.args.ring.in_range.two
 
 pub returns-then-squared_times-ne2 : goal.returns-then-squared_times-ne2
 returns-then-squared_times-ne2 c =
-    let s = some-half c.args.f c.args.n c.in-Some.half (sym c.squared_half.ensures ∙ c.in-Some.is) in
+    let s = some-half c.args.ring.f c.args.ring.n c.in-Some.half (sym c.squared_half.ensures ∙ c.in-Some.is) in
     c.refused-then-squared_times-ne2.ensures
     ∙ ap checked_of
     (sym
-    (field-strays c.args.f c.args.n (degree-eq _ _ c.requires.is_degree) s.0
-    (strayed c.args.f c.args.n c.requires.is_degree c.in-Some.half s.1 c.squared_times.result c.squared_times.ensures c.if-squared_times-ne2.true)))
+    (field-strays c.args.ring.f c.args.ring.n (degree-eq _ _ c.args.ring.in_range.is_degree) s.0
+    (strayed c.args.ring.f c.args.ring.n c.args.ring.in_range.is_degree c.in-Some.half s.1 c.squared_times.result c.squared_times.ensures c.if-squared_times-ne2.true)))
 
 pub returns : goal.returns
 returns c =
-    let s = some-half c.args.f c.args.n c.in-Some.half (sym c.squared_half.ensures ∙ c.in-Some.is) in
+    let s = some-half c.args.ring.f c.args.ring.n c.in-Some.half (sym c.squared_half.ensures ∙ c.in-Some.is) in
     answer-clear Err passed
-    (field_passed c.args.f c.args.n (degree-eq _ _ c.requires.is_degree) s.0
-    (came-back c.args.f c.args.n c.requires.is_degree c.in-Some.half s.1 c.squared_times.result c.squared_times.ensures c.if-squared_times-ne2.false))
+    (field_passed c.args.ring.f c.args.ring.n (degree-eq _ _ c.args.ring.in_range.is_degree) s.0
+    (came-back c.args.ring.f c.args.ring.n c.args.ring.in_range.is_degree c.in-Some.half s.1 c.squared_times.result c.squared_times.ensures c.if-squared_times-ne2.false))

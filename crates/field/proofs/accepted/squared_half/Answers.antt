@@ -45,29 +45,29 @@ f-pos f n deg = omega (arith, deg.low, pow_pos n)
 
 pub loop-init : goal.loop-init
 loop-init c =
-    (squared_start c.args.f c.args.n 2, none-to-zero c.args.f c.args.n c.requires.is_degree)
+    (squared_start c.args.ring.f c.args.ring.n 2, none-to-zero c.args.ring.f c.args.ring.n c.args.ring.in_range.is_degree)
 
 pub square-y-requires : goal.square-y-requires
 square-y-requires c = record {
-  is_degree = c.requires.is_degree;
-  below = y-lt c.args.f c.args.n c.requires.is_degree c.requires.two c.loop.counter c.loop.y c.loop-test.true c.loop.invariant.0;
+  is_degree = c.args.ring.in_range.is_degree;
+  below = y-lt c.args.ring.f c.args.ring.n c.args.ring.in_range.is_degree c.args.ring.in_range.two c.loop.counter c.loop.y c.loop-test.true c.loop.invariant.0;
 }
 
 pub greatest_common-requires : goal.greatest_common-requires
-greatest_common-requires c = f-pos c.args.f c.args.n c.requires.is_degree
+greatest_common-requires c = f-pos c.args.ring.f c.args.ring.n c.args.ring.in_range.is_degree
 
 pub returns-then-greatest_common-ne1 : goal.returns-then-greatest_common-ne1
 returns-then-greatest_common-ne1 c =
-    found c.args.f c.args.n c.requires.is_degree c.requires.two c.loop.counter c.loop.y c.loop-test.true c.loop.invariant.0
+    found c.args.ring.f c.args.ring.n c.args.ring.in_range.is_degree c.args.ring.in_range.two c.loop.counter c.loop.y c.loop-test.true c.loop.invariant.0
     c.square-y.result c.greatest_common.result c.square-y.ensures c.greatest_common.ensures c.if-greatest_common-ne1.true
 
 pub loop-preserved : goal.loop-preserved
 loop-preserved c =
-    again c.args.f c.args.n c.requires.is_degree c.requires.two c.loop.counter c.loop.y c.loop-test.true c.loop.invariant.0
+    again c.args.ring.f c.args.ring.n c.args.ring.in_range.is_degree c.args.ring.in_range.two c.loop.counter c.loop.y c.loop-test.true c.loop.invariant.0
     c.square-y.result c.greatest_common.result c.square-y.ensures c.greatest_common.ensures c.if-greatest_common-ne1.false c.loop.invariant.1
 
 pub returns : goal.returns
 returns c =
-    let s : c.loop.counter ≡ c.args.n / 2 = search rules in
-    let inv : (c.loop.y ≡ squared c.args.f c.args.n (c.args.n / 2) 2) × NoneTo c.args.f c.args.n (c.args.n / 2) = rw s at c.loop.invariant in
-    done c.args.f c.args.n c.requires.is_degree c.requires.two c.loop.y inv.0 inv.1
+    let s : c.loop.counter ≡ c.args.ring.n / 2 = search rules in
+    let inv : (c.loop.y ≡ squared c.args.ring.f c.args.ring.n (c.args.ring.n / 2) 2) × NoneTo c.args.ring.f c.args.ring.n (c.args.ring.n / 2) = rw s at c.loop.invariant in
+    done c.args.ring.f c.args.ring.n c.args.ring.in_range.is_degree c.args.ring.in_range.two c.loop.y inv.0 inv.1

@@ -6,4 +6,4 @@ use Rattle.field.specs.CommonDivisors.{NoneTo}
 use Rattle.field.proofs.accepted.squared_half.Given as goal
 
 abbrev pub invariant-loop : goal.invariant-loop
-invariant-loop l = (l.y ≡ squared l.f l.n l.counter 2) × NoneTo l.f l.n l.counter
+invariant-loop l = (l.y ≡ squared l.ring.f l.ring.n l.counter 2) × NoneTo l.ring.f l.ring.n l.counter

@@ -4,4 +4,4 @@ use Rattle.field.specs.Field.{squared}
 use Rattle.field.proofs.accepted.squared_times.Given as goal
 
 abbrev pub invariant-loop : goal.invariant-loop
-invariant-loop l = l.y ≡ squared l.f l.n l.counter l.a
+invariant-loop l = l.y ≡ squared l.ring.f l.ring.n l.counter l.a

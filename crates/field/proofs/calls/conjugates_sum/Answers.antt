@@ -19,28 +19,28 @@ unfolding trace_to ◌⊕◌
 turn f n i a sum y p q = rw (add-one, p, q)
 
 pub element_of-y-requires : goal.element_of-y-requires
-element_of-y-requires c = c.requires.is_degree
+element_of-y-requires c = c.args.ring.in_range.is_degree
 
 pub loop-init : goal.loop-init
 loop-init c =
-    let a = rem c.args.f c.args.n c.args.a in
-    (start c.args.f c.args.n a, c.element_of-y.ensures ∙ squared_start c.args.f c.args.n a)
+    let a = rem c.args.ring.f c.args.ring.n c.args.a in
+    (start c.args.ring.f c.args.ring.n a, c.element_of-y.ensures ∙ squared_start c.args.ring.f c.args.ring.n a)
 
 pub square-y-requires : goal.square-y-requires
 square-y-requires c =
-    let deg = c.requires.is_degree in
-    let below = squared-lt c.args.f c.args.n deg c.loop.counter (rem c.args.f c.args.n c.args.a) (rem_lt c.args.f c.args.n deg c.args.a) in
+    let deg = c.args.ring.in_range.is_degree in
+    let below = squared-lt c.args.ring.f c.args.ring.n deg c.loop.counter (rem c.args.ring.f c.args.ring.n c.args.a) (rem_lt c.args.ring.f c.args.ring.n deg c.args.a) in
     (record { is_degree = deg; below = rw c.loop.invariant.1 below })
 
 pub loop-preserved : goal.loop-preserved
 loop-preserved c =
-    let a = rem c.args.f c.args.n c.args.a in (
-      turn c.args.f c.args.n c.loop.counter a c.loop.sum c.loop.y c.loop.invariant.0 c.loop.invariant.1,
-      squared_turn c.args.f c.args.n c.requires.is_degree c.loop.counter a c.loop.y c.square-y.result c.loop.invariant.1 c.square-y.ensures,
+    let a = rem c.args.ring.f c.args.ring.n c.args.a in (
+      turn c.args.ring.f c.args.ring.n c.loop.counter a c.loop.sum c.loop.y c.loop.invariant.0 c.loop.invariant.1,
+      squared_turn c.args.ring.f c.args.ring.n c.args.ring.in_range.is_degree c.loop.counter a c.loop.y c.square-y.result c.loop.invariant.1 c.square-y.ensures,
     )
 
 pub returns : goal.returns
 unfolding trace
 returns c =
-    let s : c.loop.counter ≡ c.args.n = search rules in
+    let s : c.loop.counter ≡ c.args.ring.n = search rules in
     rw s at c.loop.invariant.0

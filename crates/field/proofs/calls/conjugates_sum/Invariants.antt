@@ -6,4 +6,4 @@ use Rattle.field.specs.Field.{squared, trace_to}
 use Rattle.field.proofs.calls.conjugates_sum.Given as goal
 
 abbrev pub invariant-loop : goal.invariant-loop
-invariant-loop l = (l.sum ≡ trace_to l.f l.n l.counter (rem l.f l.n l.a)) × (l.y ≡ squared l.f l.n l.counter (rem l.f l.n l.a))
+invariant-loop l = (l.sum ≡ trace_to l.ring.f l.ring.n l.counter (rem l.ring.f l.ring.n l.a)) × (l.y ≡ squared l.ring.f l.ring.n l.counter (rem l.ring.f l.ring.n l.a))

@@ -7,13 +7,13 @@ use Rattle.gf2.specs.Remainder.{rem-element, mul_mod-rem_r}
 use Rattle.field.proofs.calls.product.Goals as goal
 
 pub element_of-requires : goal.element_of-requires
-element_of-requires c = c.requires.is_degree
+element_of-requires c = c.args.ring.in_range.is_degree
 
 pub multiply-requires : goal.multiply-requires
-multiply-requires c = rem-element c.args.f c.args.n c.requires.is_degree c.args.a c.element_of.ensures
+multiply-requires c = rem-element c.args.ring.f c.args.ring.n c.args.ring.in_range.is_degree c.args.a c.element_of.ensures
 
 pub returns : goal.returns
 returns c =
     c.multiply.ensures
-    ∙ ap (λ (x : ℕ). mul_mod c.args.f c.args.n x c.args.b) c.element_of.ensures
-    ∙ sym (mul_mod-rem_r c.args.f c.args.n c.requires.is_degree (rem c.args.f c.args.n c.args.a) c.args.b)
+    ∙ ap (λ (x : ℕ). mul_mod c.args.ring.f c.args.ring.n x c.args.b) c.element_of.ensures
+    ∙ sym (mul_mod-rem_r c.args.ring.f c.args.ring.n c.args.ring.in_range.is_degree (rem c.args.ring.f c.args.ring.n c.args.a) c.args.b)

@@ -7,11 +7,11 @@ use Rattle.gf2.specs.Remainder.{rem-element}
 use Rattle.field.proofs.calls.squared.Goals as goal
 
 pub element_of-requires : goal.element_of-requires
-element_of-requires c = c.requires.is_degree
+element_of-requires c = c.args.ring.in_range.is_degree
 
 pub square-requires : goal.square-requires
 square-requires c =
-    (rem-element c.args.f c.args.n c.requires.is_degree c.args.a c.element_of.ensures)
+    (rem-element c.args.ring.f c.args.ring.n c.args.ring.in_range.is_degree c.args.a c.element_of.ensures)
 
 pub returns : goal.returns
-returns c = c.square.ensures ∙ ap (λ (x : ℕ). mul_mod c.args.f c.args.n x x) c.element_of.ensures
+returns c = c.square.ensures ∙ ap (λ (x : ℕ). mul_mod c.args.ring.f c.args.ring.n x x) c.element_of.ensures

@@ -1,20 +1,25 @@
 -- `field::judging::check_verdict` meets its contract: 1, then 2 and 3.
 -- Assumes nothing.
-use mathlib.Core.Path.{sym, ap, ◌∙◌}
-use Rattle.refusals.specs.Answers.{checked_of}
-use Rattle.refusals.specs.Orders.{first-applies, first_passes}
-use Rattle.field.specs.Refusals.{degree_rule}
-use Rattle.field.specs.Orders.{in_range}
+use Rattle.std.proofs.Common.{rules, ◌≡◌, ◌∙◌, [], ◌∷◌}
+use Rattle.std.specs.Prelude.{Err}
+use Rattle.refusals.specs.Verdicts.{first_of}
+use Rattle.refusals.specs.Answered.{judged_clear, judged_verdict}
+use Rattle.refusals.specs.Orders.{part-refused, part-clear}
+use Rattle.field.specs.Refusals.{degree_rule, field_order}
 use Rattle.field.proofs.judging.check_verdict.Goals as goal
 
-pub returns-then-degree_outside : goal.returns-then-degree_outside
-returns-then-degree_outside c =
-    c.refused.ensures ∙ ap checked_of (sym (first-applies (degree_rule c.args.f) _ (sym c.degree_outside.ensures ∙ c.if-degree_outside.true)))
+pub returns-in_err-ring : goal.returns-in_err-ring
+returns-in_err-ring c =
+    let e : c.from_residual.result ≡ Err c.in_err-ring.field-0.0 = search rules in
+    rw e (part-refused (degree_rule c.args.f ∷ []) (field_order c.args.f) c.in_err-ring.field-0.0.fault c.in_err-ring.field-0.0.place c.in_err-ring.ensures)
 
-pub field_verdict-requires : goal.field_verdict-requires
-field_verdict-requires c =
-    (in_range c.args.f c.degree_of.result c.degree_of.ensures (sym c.degree_outside.ensures ∙ c.if-degree_outside.false))
+pub returns-in_err-field_verdict : goal.returns-in_err-field_verdict
+returns-in_err-field_verdict c =
+    let e : c.from_residual-in_err-field_verdict.result ≡ Err c.in_err-field_verdict.field-0.0 = search rules in
+    let judged = rw c.in_ok-ring.ensures.0 at (judged_verdict (first_of (field_order c.in_ok-ring.ring.f)) c.field_verdict.ensures c.in_err-field_verdict.was) in
+    rw e (part-clear (degree_rule c.args.f ∷ []) (field_order c.args.f) c.in_ok-ring.ensures.2 ∙ judged)
 
 pub returns : goal.returns
 returns c =
-    c.field_verdict.ensures ∙ ap checked_of (sym (first_passes (degree_rule c.args.f) _ (sym c.degree_outside.ensures ∙ c.if-degree_outside.false)))
+    let judged = rw c.in_ok-ring.ensures.0 at (judged_clear (first_of (field_order c.in_ok-ring.ring.f)) c.field_verdict.ensures c.in_ok-field_verdict.was) in
+    (c.in_ok-ring.ensures.0, c.in_ok-ring.ensures.1, part-clear (degree_rule c.args.f ∷ []) (field_order c.args.f) c.in_ok-ring.ensures.2 ∙ judged)

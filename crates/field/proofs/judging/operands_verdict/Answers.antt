@@ -1,26 +1,31 @@
 -- `field::judging::operands_verdict` meets its contract: 1, then 4.
 -- Assumes nothing.
-use mathlib.Core.List.{[]}
-use mathlib.Core.Path.{sym, ap, ◌∙◌}
-use mathlib.Core.List.{◌∷◌}
-use native.Mathlib.Omega.{arith}
-use Rattle.refusals.specs.Answers.{checked_of}
-use Rattle.refusals.specs.Orders.{first-applies}
-use Rattle.field.specs.Refusals.{degree_rule}
-use Rattle.field.specs.Orders.{in_range}
-use Rattle.field.proofs.Orders.{operand-inside}
+use Rattle.std.proofs.Common.{rules, ◌≡◌, ◌∙◌, [], ◌∷◌, arith}
+use Rattle.std.specs.Prelude.{Err}
+use Rattle.gf2.specs.Poly.{degree}
+use Rattle.refusals.specs.Verdicts.{first_of}
+use Rattle.refusals.specs.Answered.{judged_clear, judged_verdict}
+use Rattle.refusals.specs.Orders.{part-refused, part-clear}
+use Rattle.field.specs.Refusals.{degree_rule, element_order}
 use Rattle.field.proofs.judging.operands_verdict.Goals as goal
 
-pub returns-then-degree_outside : goal.returns-then-degree_outside
-returns-then-degree_outside c =
-    c.refused.ensures ∙ ap checked_of (sym (first-applies (degree_rule c.args.f) _ (sym c.degree_outside.ensures ∙ c.if-degree_outside.true)))
+pub returns-in_err-ring : goal.returns-in_err-ring
+returns-in_err-ring c =
+    let e : c.from_residual.result ≡ Err c.in_err-ring.field-0.0 = search rules in
+    rw e (part-refused (degree_rule c.args.f ∷ []) (element_order (degree c.args.f) (c.args.a ∷ c.args.b ∷ [])) c.in_err-ring.field-0.0.fault c.in_err-ring.field-0.0.place c.in_err-ring.ensures)
 
 pub elements_verdict-requires : goal.elements_verdict-requires
-elements_verdict-requires c =
-    omega (arith, (in_range c.args.f c.degree_of.result c.degree_of.ensures (sym c.degree_outside.ensures ∙ c.if-degree_outside.false)).most)
+elements_verdict-requires c = omega (arith, c.in_ok-ring.ring.in_range.most)
+
+pub returns-in_err-elements_verdict : goal.returns-in_err-elements_verdict
+returns-in_err-elements_verdict c =
+    let e : c.from_residual-in_err-elements_verdict.result ≡ Err c.in_err-elements_verdict.field-0.0 = search rules in
+    let values = c.args.a ∷ c.args.b ∷ [] in
+    let judged = rw c.in_ok-ring.ensures.1 at (judged_verdict (first_of (element_order c.in_ok-ring.ring.n values)) c.elements_verdict.ensures c.in_err-elements_verdict.was) in
+    rw e (part-clear (degree_rule c.args.f ∷ []) (element_order (degree c.args.f) values) c.in_ok-ring.ensures.2 ∙ judged)
 
 pub returns : goal.returns
 returns c =
-    c.elements_verdict.ensures
-    ∙ ap checked_of
-    (sym (operand-inside c.args.f c.degree_of.result (c.args.a ∷ c.args.b ∷ []) c.degree_of.ensures (sym c.degree_outside.ensures ∙ c.if-degree_outside.false)))
+    let values = c.args.a ∷ c.args.b ∷ [] in
+    let judged = rw c.in_ok-ring.ensures.1 at (judged_clear (first_of (element_order c.in_ok-ring.ring.n values)) c.elements_verdict.ensures c.in_ok-elements_verdict.was) in
+    (c.in_ok-ring.ensures.0, c.in_ok-ring.ensures.1, part-clear (degree_rule c.args.f ∷ []) (element_order (degree c.args.f) values) c.in_ok-ring.ensures.2 ∙ judged)

@@ -11,23 +11,23 @@ use Rattle.field.proofs.powers.element_power.Goals as goal
 
 pub loop-rest-init : goal.loop-rest-init
 loop-rest-init c =
-    let s = c.requires.in_range in
-    (omega (arith, two-lt c.args.n s.two), c.requires.small, mul_mod-one_l c.args.f c.args.n s.is_degree _ (pow_mod-lt c.args.f c.args.n s.is_degree s.two c.args.a c.args.e))
+    let s = c.args.ring.in_range in
+    (omega (arith, two-lt c.args.ring.n s.two), c.requires, mul_mod-one_l c.args.ring.f c.args.ring.n s.is_degree _ (pow_mod-lt c.args.ring.f c.args.ring.n s.is_degree s.two c.args.a c.args.e))
 
 pub multiply-power-requires : goal.multiply-power-requires
-multiply-power-requires c = record { is_degree = c.requires.in_range.is_degree; below = c.loop-rest.invariant.0 }
+multiply-power-requires c = record { is_degree = c.args.ring.in_range.is_degree; below = c.loop-rest.invariant.0 }
 
 pub multiply-conjugate-requires : goal.multiply-conjugate-requires
-multiply-conjugate-requires c = record { is_degree = c.requires.in_range.is_degree; below = c.loop-rest.invariant.1 }
+multiply-conjugate-requires c = record { is_degree = c.args.ring.in_range.is_degree; below = c.loop-rest.invariant.1 }
 
 pub loop-rest-smaller : goal.loop-rest-smaller
 loop-rest-smaller c = omega (arith, c.loop-rest-test.true)
 
 pub loop-rest-preserved : goal.loop-rest-preserved
 loop-rest-preserved c =
-    let f = c.args.f in
-    let n = c.args.n in
-    let r = c.requires.in_range in
+    let f = c.args.ring.f in
+    let n = c.args.ring.n in
+    let r = c.args.ring.in_range in
     let y = c.loop-rest.power in
     let a = c.loop-rest.conjugate in
     let t : (c.if-rest-eq1.power < 2 ^ n) × (mul_mod f n c.if-rest-eq1.power (pow_mod f n (mul_mod f n a a) (c.loop-rest.rest / 2)) ≡ mul_mod f n y (pow_mod f n a c.loop-rest.rest)) =
@@ -45,6 +45,6 @@ loop-rest-preserved c =
 
 pub returns : goal.returns
 returns c =
-    let r = c.requires.in_range in
+    let r = c.args.ring.in_range in
     let z : c.loop-rest.rest ≡ 0 = omega (arith, c.loop-rest-test.false) in
-    sym (pow_mod_finished c.args.f c.args.n r.is_degree r.two c.loop-rest.power c.loop-rest.conjugate c.loop-rest.invariant.0) ∙ (rw z at c.loop-rest.invariant.2)
+    sym (pow_mod_finished c.args.ring.f c.args.ring.n r.is_degree r.two c.loop-rest.power c.loop-rest.conjugate c.loop-rest.invariant.0) ∙ (rw z at c.loop-rest.invariant.2)

@@ -7,7 +7,7 @@ use Rattle.field.specs.Field.{pow_mod}
 use Rattle.field.proofs.powers.element_power.Given as goal
 
 abbrev pub invariant-loop-rest : goal.invariant-loop-rest
-invariant-loop-rest l = (l.power < 2 ^ l.n) × (l.conjugate < 2 ^ l.n) × (mul_mod l.f l.n l.power (pow_mod l.f l.n l.conjugate l.rest) ≡ pow_mod l.f l.n l.a l.e)
+invariant-loop-rest l = (l.power < 2 ^ l.ring.n) × (l.conjugate < 2 ^ l.ring.n) × (mul_mod l.ring.f l.ring.n l.power (pow_mod l.ring.f l.ring.n l.conjugate l.rest) ≡ pow_mod l.ring.f l.ring.n l.a l.e)
 
 abbrev pub decreases-loop-rest : goal.decreases-loop-rest
 decreases-loop-rest l = l.rest

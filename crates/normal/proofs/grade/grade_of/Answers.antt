@@ -5,16 +5,16 @@ use native.Mathlib.Omega.{arith}
 use Rattle.normal.proofs.Graded.{grade-none, grade_optimal}
 use Rattle.normal.proofs.grade.grade_of.Goals as goal
 
-pub overflow_mul-n : goal.overflow_mul-n
-overflow_mul-n c = omega (arith, c.requires.in_range.most)
+pub overflow_mul-ring : goal.overflow_mul-ring
+overflow_mul-ring c = omega (arith, c.args.ring.in_range.most)
 
-pub overflow_sub-n : goal.overflow_sub-n
-overflow_sub-n c = omega (arith, c.requires.in_range.two)
+pub overflow_sub-ring : goal.overflow_sub-ring
+overflow_sub-ring c = omega (arith, c.args.ring.in_range.two)
 
-pub returns-then-complexity-n : goal.returns-then-complexity-n
-returns-then-complexity-n c = let s = c.args in sym (grade-none s.f s.n s.a s.complexity c.if-complexity-n.true)
+pub returns-then-complexity-ring : goal.returns-then-complexity-ring
+returns-then-complexity-ring c = let s = c.args in sym (grade-none s.ring.f s.ring.n s.a s.complexity c.if-complexity-ring.true)
 
 pub returns : goal.returns
 returns c =
     let s = c.args in
-    c.kind_of.ensures ∙ sym (grade_optimal s.f s.n s.a s.complexity c.if-complexity-n.false)
+    c.kind_of.ensures ∙ sym (grade_optimal s.ring.f s.ring.n s.a s.complexity c.if-complexity-ring.false)
