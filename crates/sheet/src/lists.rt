@@ -4,7 +4,6 @@ ghost use Rattle.gf2.specs.Limit.{limit};
 ghost use Rattle.refusals.specs.Verdicts.{first_of};
 ghost use Rattle.refusals.specs.Answers.{checked_of, checked_report};
 ghost use Rattle.rows.specs.Rows.{comb};
-ghost use Rattle.field.specs.Accepted.{InRange};
 ghost use Rattle.field.specs.Refusals.{too_large_lem};
 ghost use Rattle.sheet.specs.Record.{record_count};
 ghost use Rattle.sheet.specs.Orders.{Small, list_rule, value_rules, list_order, polynomial_list_order};
@@ -15,7 +14,7 @@ use super::in_place::convert_each;
 use super::layout::{CONJUGATE_AT, INVERSE_AT};
 use super::shaped::Sheet;
 use super::unreduced::{convert_words, reduce_all};
-use field::too_large;
+use field::{Ring, too_large};
 use gf2::LIMIT;
 use refusals::{Fault, Refusal, refused, refused_at};
 use rows::{BYTE_SUMS, byte_sums, sum, sum_by_bytes};
@@ -66,15 +65,14 @@ fn convert_values(rows: [u64; LIMIT], list: &mut [u64])
 }
 
 // Every word reduced and converted by the inverse rows, in the way that is faster for a list of its length.
-fn convert_unreduced(rows: [u64; LIMIT], f: u64, n: u32, list: &mut [u64])
-    requires { InRange f n }
-    ensures { list.new ≡ map (in_normal f n rows) list.old }
+fn convert_unreduced(rows: [u64; LIMIT], ring: Ring, list: &mut [u64])
+    ensures { list.new ≡ map (in_normal ring.f ring.n rows) list.old }
 {
     if list.len() < TABLES_PAY {
-        reduce_all(f, n, list);
+        reduce_all(ring.f, ring.n, list);
         convert_all(&rows, list);
     } else {
-        convert_words(&rows, f, n, list);
+        convert_words(&rows, ring, list);
     }
 }
 
@@ -121,7 +119,7 @@ impl<'a> Sheet<'a> {
     {
         let rows = self.rows(INVERSE_AT);
         into.copy_from_slice(from);
-        convert_unreduced(rows, self.polynomial(), self.degree(), into);
+        convert_unreduced(rows, self.ring(), into);
     }
 
     // The shape, which is good, then 11.

@@ -12,7 +12,7 @@ use super::answer::Summary;
 use super::building::put_basis;
 use super::layout::{CONJUGATE_AT, RECORD, WORD, number_at};
 use super::shaped::Sheet;
-use field::field_verdict;
+use field::{Ring, field_verdict};
 use gf2::{LIMIT, Spread};
 use normal::{Basis, build_basis};
 use refusals::{Fault, Refusal};
@@ -40,13 +40,13 @@ fn first_differing(sheet: &[u8], rebuilt: &[u8], n: usize) -> Option<usize>
 }
 
 // The sheet of a basis, compared record by record: 10, or its summary.
-fn compared(sheet: &[u8], f: u64, n: u32, element: u64, basis: Basis) -> Result<Summary, Refusal>
-    requires { Rebuilt sheet.now f n element × (basis ≡ basis_rows f n element) }
-    ensures { result ≡ issued_of (first_of (differ_rules sheet.now (rebuilt_from sheet.now) 0 n)) (summary_in sheet.now) }
+fn compared(sheet: &[u8], ring: Ring, element: u64, basis: Basis) -> Result<Summary, Refusal>
+    requires { Rebuilt sheet.now ring.f ring.n element × (basis ≡ basis_rows ring.f ring.n element) }
+    ensures { result ≡ issued_of (first_of (differ_rules sheet.now (rebuilt_from sheet.now) 0 ring.n)) (summary_in sheet.now) }
 {
     let mut rebuilt = [0u8; RECORD * LIMIT];
-    let summary = put_basis(&mut rebuilt, f, n, element, basis);
-    let count = n as usize;
+    let summary = put_basis(&mut rebuilt, ring, element, basis);
+    let count = ring.n as usize;
     match first_differing(sheet, &rebuilt, count) {
         Some(place) => Err(Refusal {
             fault: Fault::Differs,
@@ -60,15 +60,14 @@ fn compared(sheet: &[u8], f: u64, n: u32, element: u64, basis: Basis) -> Result<
 fn rebuilt_basis(
     spread: &Spread,
     sheet: &[u8],
-    f: u64,
-    n: u32,
+    ring: Ring,
     element: u64,
 ) -> Result<Summary, Refusal>
-    requires { Rebuilt sheet.now f n element }
-    ensures { result ≡ issued_of (first_of (normal_rule f n element ∷ differ_rules sheet.now (rebuilt_from sheet.now) 0 n)) (summary_in sheet.now) }
+    requires { Rebuilt sheet.now ring.f ring.n element }
+    ensures { result ≡ issued_of (first_of (normal_rule ring.f ring.n element ∷ differ_rules sheet.now (rebuilt_from sheet.now) 0 ring.n)) (summary_in sheet.now) }
 {
-    match build_basis(spread, f, n, element) {
-        Ok(basis) => compared(sheet, f, n, element, basis),
+    match build_basis(spread, ring.f, ring.n, element) {
+        Ok(basis) => compared(sheet, ring, element, basis),
         Err(_) => Err(Refusal::from(Fault::NotNormal)),
     }
 }
@@ -78,12 +77,11 @@ impl<'a> Sheet<'a> {
     fn rebuilt(&self) -> Result<Summary, Refusal>
         ensures { result ≡ issued_of (first_of (rebuild_order self.now.bytes.now)) (summary_in self.now.bytes.now) }
     {
-        let n = self.degree();
-        let f = self.polynomial();
+        let ring = self.ring();
         let element = number_at(self.bytes, CONJUGATE_AT, WORD);
         let spread = Spread::new();
-        field_verdict(&spread, f, n)?;
-        rebuilt_basis(&spread, self.bytes, f, n, element)
+        field_verdict(&spread, ring)?;
+        rebuilt_basis(&spread, self.bytes, ring, element)
     }
 }
 

@@ -9,6 +9,7 @@ ghost use Rattle.sheet.specs.Orders.{Shaped, shape_order};
 
 use super::layout::{RECORD, TABLE_AT, TAIL, TAIL_AT, WORD, number_at};
 use super::shape::shape_verdict;
+use field::Ring;
 use gf2::LIMIT;
 use refusals::Refusal;
 use rows::{BYTE_SUMS, degree_sums};
@@ -41,6 +42,16 @@ impl<'a> Sheet<'a> {
         ensures { result ≡ polynomial_in self.now.bytes.now }
     {
         (1u64 << self.degree()) + number_at(self.bytes, TAIL_AT, TAIL)
+    }
+
+    // The polynomial with the degree, which the shape has in range.
+    pub fn ring(&self) -> Ring
+        ensures { (result.f ≡ polynomial_in self.now.bytes.now) × (result.n ≡ record_count self.now.bytes.now) }
+    {
+        Ring {
+            f: self.polynomial(),
+            n: self.degree(),
+        }
     }
 
     // The rows of the column at a place.

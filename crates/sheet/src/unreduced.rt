@@ -5,10 +5,10 @@ ghost use Rattle.std.specs.Prelude.{◌≡◌, map, ◌^◌, ◌≤◌, ◌<◌}
 ghost use Rattle.gf2.specs.Poly.{rem, Degree};
 ghost use Rattle.gf2.specs.Limit.{limit};
 ghost use Rattle.rows.specs.Rows.{comb};
-ghost use Rattle.field.specs.Accepted.{InRange};
 ghost use Rattle.sheet.specs.Unreduced.{word_rows, in_normal};
 
 use super::in_place::convert_each;
+use field::Ring;
 use gf2::{LIMIT, element_of, multiply_by_x};
 use rows::{WORD_ROWS, WORD_SUMS, byte_sums, sum, sum_by_bytes};
 
@@ -33,25 +33,23 @@ fn word_row(rows: &[u64; LIMIT], n: u32, i: usize, y: u64) -> u64
 }
 
 // The coordinates of x^0 to x^63, by the coordinates of x^0 to x^(n-1).
-fn word_rows(rows: &[u64; LIMIT], f: u64, n: u32) -> [u64; WORD_ROWS]
-    requires { InRange f n }
-    ensures { result ≡ word_rows f n rows.now }
+fn word_rows(rows: &[u64; LIMIT], ring: Ring) -> [u64; WORD_ROWS]
+    ensures { result ≡ word_rows ring.f ring.n rows.now }
 {
     let mut words: [u64; WORD_ROWS] = [0; WORD_ROWS];
     let mut y: u64 = 1;
     for i in 0..WORD_ROWS {
-        words[i] = word_row(rows, n, i, y);
-        y = multiply_by_x(f, n, y);
+        words[i] = word_row(rows, ring.n, i, y);
+        y = multiply_by_x(ring.f, ring.n, y);
     }
     words
 }
 
 // Every word of a list reduced and converted at once, from the tables of the words' rows.
-pub fn convert_words(rows: &[u64; LIMIT], f: u64, n: u32, list: &mut [u64])
-    requires { InRange f n }
-    ensures { list.new ≡ map (in_normal f n rows.now) list.old }
+pub fn convert_words(rows: &[u64; LIMIT], ring: Ring, list: &mut [u64])
+    ensures { list.new ≡ map (in_normal ring.f ring.n rows.now) list.old }
 {
     let mut sums: [u64; WORD_SUMS] = [0; WORD_SUMS];
-    byte_sums(word_rows(rows, f, n), &mut sums);
+    byte_sums(word_rows(rows, ring), &mut sums);
     convert_each(list, |word| sum_by_bytes(&sums, word));
 }

@@ -2,8 +2,6 @@
 -- Assumes nothing.
 use mathlib.Core.List.{[]}
 use mathlib.Core.Path.{ap, ◌∙◌}
-use native.Mathlib.Omega.{arith}
-use lib.Pow.{pow_mono}
 use Rattle.refusals.specs.Orders.{first-none}
 use Rattle.refusals.specs.Answered.{answer-refused, answer-clear, left-refused, left-clear}
 use Rattle.sheet.specs.Basis.{normal-refused, normal_passed, normal-rows, sheet_written, summary_table}
@@ -12,12 +10,12 @@ use Rattle.std.specs.Prelude.{Ok, Err}
 
 pub build_basis-requires : goal.build_basis-requires
 build_basis-requires c =
-    let e = c.requires.0 in
-    (e.in_range.most, record { is_degree = e.in_range.is_degree; below = omega (arith, e.small, pow_mono e.in_range.two) })
+    let r = c.args.ring.in_range in
+    (r.most, record { is_degree = r.is_degree; below = c.requires.0 })
 
 pub returns-in-Err : goal.returns-in-Err
 returns-in-Err c =
-    let v = normal-refused c.args.f c.args.n c.args.element [] c.in-Err.ensures in record {
+    let v = normal-refused c.args.ring.f c.args.ring.n c.args.element [] c.in-Err.ensures in record {
       answer = ap Err c.from.ensures ∙ answer-refused Err _ v;
       written = left-refused _ c.args.buffer.now v;
     }
@@ -27,8 +25,8 @@ put_basis-requires c = (c.requires.0, c.requires.1)
 
 pub returns-in-Ok : goal.returns-in-Ok
 returns-in-Ok c =
-    let f = c.args.f in
-    let n = c.args.n in
+    let f = c.args.ring.f in
+    let n = c.args.ring.n in
     let a = c.args.element in
     let v = normal_passed f n a [] c.in-Ok.ensures ∙ first-none in
     let rows = normal-rows f n a c.in-Ok.ensures in record {

@@ -6,13 +6,13 @@ use Rattle.refusals.specs.Answers.{checked_of}
 use Rattle.sheet.specs.Building.{room-short, room-enough}
 use Rattle.sheet.proofs.building.room_verdict.Goals as goal
 
-pub overflow_mul-n : goal.overflow_mul-n
-overflow_mul-n c = omega (arith, c.requires.most)
+pub overflow_mul-ring : goal.overflow_mul-ring
+overflow_mul-ring c = omega (arith, c.args.ring.in_range.most)
 
-pub returns-then-room-n : goal.returns-then-room-n
-returns-then-room-n c =
-    c.refused.ensures ∙ ap checked_of (sym (room-short c.args.f c.args.n c.args.room c.if-room-n.true))
+pub returns-then-room-ring : goal.returns-then-room-ring
+returns-then-room-ring c =
+    c.refused.ensures ∙ ap checked_of (sym (room-short c.args.ring.f c.args.ring.n c.args.room c.if-room-ring.true))
 
 pub returns : goal.returns
 returns c =
-    c.field_verdict.ensures ∙ ap checked_of (sym (room-enough c.args.f c.args.n c.args.room c.if-room-n.false))
+    c.field_verdict.ensures ∙ ap checked_of (sym (room-enough c.args.ring.f c.args.ring.n c.args.room c.if-room-ring.false))

@@ -14,4 +14,4 @@ summarized f n a c g table e p = rw (p, e)
 
 pub returns : goal.returns
 returns c =
-    summarized c.args.f c.args.n c.args.element c.complexity_of-complexity.result c.grade_of.result _ c.complexity_of-complexity.ensures c.grade_of.ensures
+    summarized c.args.ring.f c.args.ring.n c.args.element c.complexity_of-complexity.result c.grade_of.result _ c.complexity_of-complexity.ensures c.grade_of.ensures

@@ -14,11 +14,8 @@ by_rows f n deg rows words {made} {sums} m e small =
     map-agree (picked_bytes word_bytes sums) (in_normal f n rows) words
     (λ i l. words_pick f n deg rows (e ∙ ap (byte_sums word_bytes) m) (get_or words i 0) (small i l))
 
-pub word_rows-requires : goal.word_rows-requires
-word_rows-requires c = c.requires
-
 pub returns : goal.returns
 returns c =
     let words = c.args.list.now in
     map-each (picked_bytes word_bytes c.byte_sums.new.sums) words c.convert_each.new.list c.convert_each.ensures.size (λ i l. let h = c.convert_each.ensures.converted i l in search rules)
-    ∙ by_rows c.args.f c.args.n c.requires.is_degree c.args.rows.now words c.word_rows.ensures c.byte_sums.ensures (λ i h. omega (arith, c.slice_known-1.given i))
+    ∙ by_rows c.args.ring.f c.args.ring.n c.args.ring.in_range.is_degree c.args.rows.now words c.word_rows.ensures c.byte_sums.ensures (λ i h. omega (arith, c.slice_known-1.given i))

@@ -32,28 +32,28 @@ done f n i rows words h s = filled_listed words i (row f n rows) h s
 
 pub loop-i-init : goal.loop-i-init
 loop-i-init c =
-    (omega arith, filled_start (row c.args.f c.args.n c.args.rows.now), start c.args.f c.args.n c.requires)
+    (omega arith, filled_start (row c.args.ring.f c.args.ring.n c.args.rows.now), start c.args.ring.f c.args.ring.n c.args.ring.in_range)
 
 pub word_row-requires : goal.word_row-requires
 word_row-requires c =
     let e = c.loop-i.invariant.2 in
-    (c.requires.most, (rem-element c.args.f c.args.n c.requires.is_degree (2 ^ c.loop-i.i) e).below, own c.args.f c.args.n c.loop-i.i c.loop-i.y e)
+    (c.args.ring.in_range.most, (rem-element c.args.ring.f c.args.ring.n c.args.ring.in_range.is_degree (2 ^ c.loop-i.i) e).below, own c.args.ring.f c.args.ring.n c.loop-i.i c.loop-i.y e)
 
 pub multiply_by_x-y-requires : goal.multiply_by_x-y-requires
-multiply_by_x-y-requires c = rem-element c.args.f c.args.n c.requires.is_degree (2 ^ c.loop-i.i) c.loop-i.invariant.2
+multiply_by_x-y-requires c = rem-element c.args.ring.f c.args.ring.n c.args.ring.in_range.is_degree (2 ^ c.loop-i.i) c.loop-i.invariant.2
 
 pub loop-i-preserved : goal.loop-i-preserved
 loop-i-preserved c =
-    let f = c.args.f in
-    let n = c.args.n in
+    let f = c.args.ring.f in
+    let n = c.args.ring.n in
     let rows = c.args.rows.now in
     let i = c.loop-i.i in
     let e = c.loop-i.invariant.2 in (
       omega arith,
       filled_turn c.loop-i.words i c.word_row.result (row f n rows) (omega arith) (made f n i c.word_row.result c.loop-i.y rows c.word_row.ensures e) c.loop-i.invariant.1,
-      power_turn f n c.requires.is_degree i c.loop-i.y c.multiply_by_x-y.result e c.multiply_by_x-y.ensures,
+      power_turn f n c.args.ring.in_range.is_degree i c.loop-i.y c.multiply_by_x-y.result e c.multiply_by_x-y.ensures,
     )
 
 pub returns : goal.returns
 returns c =
-    done c.args.f c.args.n c.loop-i.i c.args.rows.now c.loop-i.words (omega arith) c.loop-i.invariant.1
+    done c.args.ring.f c.args.ring.n c.loop-i.i c.args.rows.now c.loop-i.words (omega arith) c.loop-i.invariant.1

@@ -13,7 +13,7 @@ abbrev pub row : (f n : ℕ) (rows : List ℕ) → ℕ → ℕ
 row f n rows i = in_normal f n rows (2 ^ i)
 
 abbrev pub invariant-loop-i : goal.invariant-loop-i
-invariant-loop-i l = (l.i ≤ word_bits) × FilledOf word_bits l.words l.i (row l.f l.n l.rows) × (l.y ≡ rem l.f l.n (2 ^ l.i))
+invariant-loop-i l = (l.i ≤ word_bits) × FilledOf word_bits l.words l.i (row l.ring.f l.ring.n l.rows) × (l.y ≡ rem l.ring.f l.ring.n (2 ^ l.i))
 
 abbrev pub decreases-loop-i : goal.decreases-loop-i
 decreases-loop-i l = word_bits - l.i

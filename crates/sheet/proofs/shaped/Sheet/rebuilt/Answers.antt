@@ -12,7 +12,6 @@ use Rattle.sheet.specs.Record.{record_count, column_in, conjugate_in, polynomial
 use Rattle.sheet.specs.Orders.{normal_rule, differ_rules, rebuilt_from, rebuild_order}
 use Rattle.sheet.specs.declared.answer.Summary.{Summary}
 use Rattle.sheet.specs.Answers.{summary_in, issued_of}
-use Rattle.sheet.specs.Rebuilding.{shaped_range}
 use Rattle.sheet.proofs.shaped.Sheet.rebuilt.Goals as goal
 use Rattle.std.specs.Prelude.{Result, Err}
 use Rattle.refusals.specs.Answers.{Checked}
@@ -37,14 +36,10 @@ module _ (sheet : List ℕ) (f : ℕ) (ef : f ≡ polynomial_in sheet) {c : Chec
 pub number_at-element-requires : goal.number_at-element-requires
 number_at-element-requires c = let z = c.args.self.now.shaped.size in (omega (arith, z.whole, z.two), omega arith)
 
-pub field_verdict-requires : goal.field_verdict-requires
-field_verdict-requires c =
-    (rw (c.polynomial-f.ensures, c.degree-n.ensures) (shaped_range c.args.self.now.bytes.now c.args.self.now.shaped))
-
 pub rebuilt_basis-requires : goal.rebuilt_basis-requires
 unfolding column_in
 rebuilt_basis-requires c =
-    (record { shaped = c.args.self.now.shaped; polynomial = c.polynomial-f.ensures; count = c.degree-n.ensures; conjugate = c.number_at-element.ensures })
+    (record { shaped = c.args.self.now.shaped; polynomial = c.ring-ring.ensures.0; count = c.ring-ring.ensures.1; conjugate = c.number_at-element.ensures })
 
 pub returns-in_err-field_verdict : goal.returns-in_err-field_verdict
 returns-in_err-field_verdict c =
@@ -52,13 +47,13 @@ returns-in_err-field_verdict c =
     let sheet = c.args.self.now.bytes.now in
     e ∙ answer-refused Err _
     (part-refuses (field_order (polynomial_in sheet)) (normal_rule (polynomial_in sheet) (record_count sheet) (conjugate_in sheet 0) ∷ differ_rules sheet (rebuilt_from sheet) 0 (record_count sheet))
-    (own sheet c.polynomial-f.result c.polynomial-f.ensures c.field_verdict.ensures) c.in_err-field_verdict.was)
+    (own sheet c.ring-ring.result.f c.ring-ring.ensures.0 c.field_verdict.ensures) c.in_err-field_verdict.was)
 
 pub returns : goal.returns
 unfolding column_in
 returns c =
     let sheet = c.args.self.now.bytes.now in
-    decided sheet c.polynomial-f.result c.polynomial-f.ensures c.field_verdict.ensures c.number_at-element.result c.number_at-element.ensures
-    (c.rebuilt_basis.ensures ∙ ap (λ (n : ℕ). issued_of (first_of (normal_rule c.polynomial-f.result n c.number_at-element.result ∷ differ_rules sheet (rebuilt_from sheet) 0 n)) (summary_in sheet)) c.degree-n.ensures)
+    decided sheet c.ring-ring.result.f c.ring-ring.ensures.0 c.field_verdict.ensures c.number_at-element.result c.number_at-element.ensures
+    (c.rebuilt_basis.ensures ∙ ap (λ (n : ℕ). issued_of (first_of (normal_rule c.ring-ring.result.f n c.number_at-element.result ∷ differ_rules sheet (rebuilt_from sheet) 0 n)) (summary_in sheet)) c.ring-ring.ensures.1)
     (part-passes (field_order (polynomial_in sheet)) (normal_rule (polynomial_in sheet) (record_count sheet) (conjugate_in sheet 0) ∷ differ_rules sheet (rebuilt_from sheet) 0 (record_count sheet))
-    (own sheet c.polynomial-f.result c.polynomial-f.ensures c.field_verdict.ensures) c.in_ok-field_verdict.was)
+    (own sheet c.ring-ring.result.f c.ring-ring.ensures.0 c.field_verdict.ensures) c.in_ok-field_verdict.was)
