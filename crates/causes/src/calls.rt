@@ -7,6 +7,7 @@ ghost use Rattle.causes.specs.Causes.{sheet_cause, cause_report, why_answer, why
 
 use super::answer::Cause;
 use super::behind::{basis_cause, difference_of, polynomial_cause, right_row};
+use field::Ring;
 use gf2::{LIMIT, degree_of};
 use refusals::{Fault, Refusal};
 use sheet::{RECORD, polynomial_of, row_at};
@@ -16,16 +17,18 @@ fn rebuilt_cause(sheet: &[u8], refusal: Refusal) -> Cause
     requires { Shaped sheet.now × (first_of (rebuild_order sheet.now) ≡ refuse refusal.fault refusal.place) }
     ensures { result ≡ sheet_cause sheet.now refusal.fault refusal.place }
 {
-    let n = (sheet.len() / RECORD) as u32;
-    let f = polynomial_of(sheet);
+    let ring = Ring {
+        f: polynomial_of(sheet),
+        n: (sheet.len() / RECORD) as u32,
+    };
     let first = row_at(sheet, 0);
     match refusal.fault {
         Fault::Differs => {
             let place = refusal.place;
-            let right = right_row(f, n, first.conjugate, place);
+            let right = right_row(ring, first.conjugate, place);
             Cause::Differs(difference_of(place, row_at(sheet, place), right))
         }
-        _ => basis_cause(f, n, first.conjugate, refusal),
+        _ => basis_cause(ring, first.conjugate, refusal),
     }
 }
 
@@ -66,7 +69,10 @@ pub fn why_check(f: u64) -> Cause
     match field::check(f) {
         Err(refusal) => match refusal.fault {
             Fault::DegreeOutside => Cause::Refused(refusal),
-            _ => polynomial_cause(f, degree_of(f), refusal),
+            _ => {
+                let ring = Ring { f, n: degree_of(f) };
+                polynomial_cause(ring, refusal)
+            }
         },
         Ok(()) => Cause::Accepted,
     }
@@ -90,7 +96,8 @@ pub fn why_build(f: u64, element: u64) -> Cause
             if is_of_operands(refusal.fault) {
                 return Cause::Refused(refusal);
             }
-            basis_cause(f, degree_of(f), element, refusal)
+            let ring = Ring { f, n: degree_of(f) };
+            basis_cause(ring, element, refusal)
         }
         Ok(_) => Cause::Accepted,
     }

@@ -10,9 +10,9 @@ dependency_of-requires c = (c.requires.0, c.requires.1 c.in-NotNormal.is)
 
 pub returns-in-NotNormal : goal.returns-in-NotNormal
 returns-in-NotNormal c =
-    basis_dependency c.args.f c.args.n c.args.refusal c.args.element c.in-NotNormal.is c.dependency_of.ensures
+    basis_dependency c.args.ring.f c.args.ring.n c.args.refusal c.args.element c.in-NotNormal.is c.dependency_of.ensures
 
 pub returns-in_default : goal.returns-in_default
 returns-in_default c =
-    basis_polynomial c.args.f c.args.n c.args.refusal c.args.element
+    basis_polynomial c.args.ring.f c.args.ring.n c.args.refusal c.args.element
     (λ e. c.in_default.not-NotNormal (same_fault c.args.refusal.fault faults.NotNormal e)) c.polynomial_cause.ensures

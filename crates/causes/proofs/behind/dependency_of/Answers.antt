@@ -6,7 +6,7 @@ use Rattle.causes.specs.Cases.{apart, built_dependency}
 use Rattle.causes.proofs.behind.dependency_of.Goals as goal
 
 pub returns-in-Ok : goal.returns-in-Ok
-returns-in-Ok c = absurd (apart (sym (built-ok c.args.f c.args.n c.args.element c.in-Ok.ensures).0 ∙ c.requires.1))
+returns-in-Ok c = absurd (apart (sym (built-ok c.args.ring.f c.args.ring.n c.args.element c.in-Ok.ensures).0 ∙ c.requires.1))
 
 pub returns-in-Err : goal.returns-in-Err
-returns-in-Err c = built_dependency c.args.f c.args.n c.args.element c.requires.1 c.in-Err.ensures
+returns-in-Err c = built_dependency c.args.ring.f c.args.ring.n c.args.element c.requires.1 c.in-Err.ensures

@@ -4,5 +4,4 @@ use Rattle.field.specs.Ring.{two-lt}
 use Rattle.causes.proofs.behind.x_squared.Goals as goal
 
 pub squared_times-requires : goal.squared_times-requires
-squared_times-requires c =
-    (record { in_range = c.requires; small = two-lt c.args.n c.requires.two })
+squared_times-requires c = two-lt c.args.ring.n c.args.ring.in_range.two

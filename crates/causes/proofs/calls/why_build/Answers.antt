@@ -25,6 +25,17 @@ returns-then-is_of_operands c =
     (cause-refused (basis_cause f (degree f) a) (refused_verdict (first_of (build_order f a (record_size * limit))) (summary_of f (degree f) a) (sym c.build.ensures.answer ∙ c.in-Err.is))
     (basis_alone f (degree f) r a ((operands_number (fault_number r.fault)).0 (sym c.is_of_operands.ensures ∙ c.if-is_of_operands.true)))) in record { answer = whole.0; report = whole.1 }
 
+pub invariant_of-ring : goal.invariant_of-ring
+unfolding build_answer
+invariant_of-ring c =
+    let f = c.args.f in
+    let a = c.args.element in
+    let r = c.in-Err.refusal in
+    let e : first_of (build_order f a (record_size * limit)) ≡ refuse r.fault r.place =
+    refused_verdict (first_of (build_order f a (record_size * limit))) (summary_of f (degree f) a) (sym c.build.ensures.answer ∙ c.in-Err.is) in
+    let off = (operands_number (fault_number r.fault)).1 (sym c.is_of_operands.ensures ∙ c.if-is_of_operands.false) in
+    record { in_range = (build-operand f a (record_size * limit) c.degree_of.result r.fault r.place c.degree_of.ensures e off.0 off.1).in_range }
+
 pub basis_cause-requires : goal.basis_cause-requires
 unfolding build_answer
 basis_cause-requires c =
@@ -34,7 +45,7 @@ basis_cause-requires c =
     let e : first_of (build_order f a (record_size * limit)) ≡ refuse r.fault r.place =
     refused_verdict (first_of (build_order f a (record_size * limit))) (summary_of f (degree f) a) (sym c.build.ensures.answer ∙ c.in-Err.is) in
     let off = (operands_number (fault_number r.fault)).1 (sym c.is_of_operands.ensures ∙ c.if-is_of_operands.false) in (
-      build-operand f a (record_size * limit) c.degree_of.result r.fault r.place c.degree_of.ensures e off.0 off.1,
+      (build-operand f a (record_size * limit) c.degree_of.result r.fault r.place c.degree_of.ensures e off.0 off.1).small,
       λ five. rw c.degree_of.ensures (build_dependent f a (record_size * limit) r.place (rw five at e)),
     )
 

@@ -25,12 +25,15 @@ returns-in-DegreeOutside c =
     (cause-refused (polynomial_cause f (degree f)) (judged_verdict (first_of (check_order f)) c.check.ensures.answer c.in-Err.is)
     (polynomial-alone f (degree f) r (λ e. omega (arith, e, ap fault_number c.in-DegreeOutside.is)) (λ e. omega (arith, e, ap fault_number c.in-DegreeOutside.is)))) in record { answer = whole.0; report = whole.1 }
 
-pub polynomial_cause-requires : goal.polynomial_cause-requires
+pub invariant_of-ring : goal.invariant_of-ring
 unfolding check_answer
-polynomial_cause-requires c =
+invariant_of-ring c =
     let f = c.args.f in
     let r = c.in-Err.refusal in
-    check_range f c.degree_of.result r.fault r.place c.degree_of.ensures (judged_verdict (first_of (check_order f)) c.check.ensures.answer c.in-Err.is) (λ e. c.in_default.not-DegreeOutside (same_fault r.fault faults.DegreeOutside e))
+    record {
+      in_range = check_range f c.degree_of.result r.fault r.place c.degree_of.ensures
+          (judged_verdict (first_of (check_order f)) c.check.ensures.answer c.in-Err.is) (λ e. c.in_default.not-DegreeOutside (same_fault r.fault faults.DegreeOutside e));
+    }
 
 pub returns-in_default : goal.returns-in_default
 unfolding check_answer why_check_answer
