@@ -3,7 +3,6 @@
 ghost use Rattle.std.specs.Prelude.{◌≡◌, cond, [], ◌∷◌, ◌++◌, ◌+◌, ◌^◌, ◌≤◌, ◌<◌, drop};
 ghost use Rattle.refusals.specs.Verdicts.{first_of, clear};
 ghost use Rattle.refusals.specs.Answers.{checked_of};
-ghost use Rattle.field.specs.Accepted.{Operand};
 ghost use Rattle.field.specs.Refusals.{field_order};
 ghost use Rattle.normal.specs.TableProduct.{entry};
 ghost use Rattle.sheet.specs.Answers.{summary_of, issued_of, issued_report};
@@ -13,8 +12,8 @@ ghost use Rattle.matrices.specs.Turned.{twice_limit, turned};
 ghost use Rattle.matrices.specs.Answers.{read_text_answer, read_text_report};
 
 use super::line::{LINE_END, RowsTwice, digit, matrix_size, rows_twice, text_size};
-use field::{field_verdict, operand_verdict};
-use gf2::{Spread, degree_of};
+use field::{Ring, field_verdict, operand_verdict};
+use gf2::Spread;
 use normal::build_basis;
 use refusals::{Fault, Refusal, refused_at};
 use sheet::{Summary, summary_of};
@@ -93,34 +92,28 @@ impl RowsTwice {
 }
 
 // The text of an accepted f and an element: 5, then 14.
-fn read_built(
-    spread: &Spread,
-    f: u64,
-    n: u32,
-    element: u64,
-    text: &[u8],
-) -> Result<Summary, Refusal>
-    requires { Operand f n element × (first_of (field_order f) ≡ clear) }
-    ensures { result ≡ issued_of (first_of (match_order f n element text.now)) (summary_of f n element) }
+fn read_built(spread: &Spread, ring: Ring, element: u64, text: &[u8]) -> Result<Summary, Refusal>
+    requires { (element < 2 ^ ring.n) × (first_of (field_order ring.f) ≡ clear) }
+    ensures { result ≡ issued_of (first_of (match_order ring.f ring.n element text.now)) (summary_of ring.f ring.n element) }
 {
-    match build_basis(spread, f, n, element) {
+    match build_basis(spread, ring.f, ring.n, element) {
         Ok(basis) => {
-            let rows = rows_twice(&basis.table, n as usize);
+            let rows = rows_twice(&basis.table, ring.n as usize);
             rows.match_verdict(text)?;
-            Ok(summary_of(f, n, element, basis.table))
+            Ok(summary_of(ring, element, basis.table))
         }
         Err(_) => Err(Refusal::from(Fault::NotNormal)),
     }
 }
 
 // 2, 3, 5, 14.
-fn read_operand(f: u64, n: u32, element: u64, text: &[u8]) -> Result<Summary, Refusal>
-    requires { Operand f n element }
-    ensures { result ≡ issued_of (first_of (field_order f ++ match_order f n element text.now)) (summary_of f n element) }
+fn read_operand(ring: Ring, element: u64, text: &[u8]) -> Result<Summary, Refusal>
+    requires { element < 2 ^ ring.n }
+    ensures { result ≡ issued_of (first_of (field_order ring.f ++ match_order ring.f ring.n element text.now)) (summary_of ring.f ring.n element) }
 {
     let spread = Spread::new();
-    field_verdict(&spread, f, n)?;
-    read_built(&spread, f, n, element, text)
+    field_verdict(&spread, ring)?;
+    read_built(&spread, ring, element, text)
 }
 
 // Whether the text is the one of f and the element.
@@ -128,6 +121,6 @@ pub fn read_matrices(f: u64, element: u64, text: &[u8]) -> Result<Summary, Refus
     ensures answer { result ≡ read_text_answer f element text.now }
     ensures report { issued_report result ≡ read_text_report f element text.now }
 {
-    operand_verdict(f, element)?;
-    read_operand(f, degree_of(f), element, text)
+    let ring = operand_verdict(f, element)?;
+    read_operand(ring, element, text)
 }
