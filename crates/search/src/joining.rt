@@ -6,6 +6,7 @@ ghost use Rattle.search.specs.declared.answer.Search.TheVariants.{Found};
 
 use super::answer::Best;
 use elements::Squares;
+use field::Ring;
 use normal::grade_of;
 
 // The largest number of 32 bits, which no count of ones passes. The specs have it as `unbounded`.
@@ -16,10 +17,14 @@ fn found_by(squares: &Squares, a: u64, ones: u32, count: u64) -> Best
     requires { a < 2 ^ squares.now.n }
     ensures { result ≡ with_count (found_by squares.now.f squares.now.n a ones) count }
 {
+    let ring = Ring {
+        f: squares.f,
+        n: squares.n,
+    };
     Best {
         element: a,
         complexity: ones,
-        grade: grade_of(squares.f, squares.n, a, ones),
+        grade: grade_of(ring, a, ones),
         count,
     }
 }

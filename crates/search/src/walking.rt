@@ -11,6 +11,7 @@ use super::answer::Best;
 use super::joining::{bound_of, join_decided};
 use super::leader::is_leader;
 use elements::{Modulus, Reference, Squares, Tables};
+use field::Ring;
 use gf2::Spread;
 use normal::build_basis;
 
@@ -70,18 +71,11 @@ fn walk_on(tables: &Tables, held: Option<Best>, next: u64, last: u64) -> Option<
 }
 
 // What is held, joined with the answer over the elements from first to last.
-pub fn walk(
-    spread: &Spread,
-    f: u64,
-    n: u32,
-    held: Option<Best>,
-    first: u64,
-    last: u64,
-) -> Option<Best>
-    requires { RangeOf f n first last × (count_of (as_answer held) ≤ first) }
-    ensures { as_answer result ≡ joined (as_answer held) (ranged f n first last) }
+pub fn walk(spread: &Spread, ring: Ring, held: Option<Best>, first: u64, last: u64) -> Option<Best>
+    requires { RangeOf ring.f ring.n first last × (count_of (as_answer held) ≤ first) }
+    ensures { as_answer result ≡ joined (as_answer held) (ranged ring.f ring.n first last) }
 {
-    let squares = Squares::new(spread, f, n);
+    let squares = Squares::new(spread, ring.f, ring.n);
     let m = Modulus::new(&squares);
     match first_normal(spread, &m, first, last) {
         None => held,

@@ -3,8 +3,8 @@ use Rattle.search.specs.Search.{found_by}
 use Rattle.search.specs.Joining.{operand_of}
 use Rattle.search.proofs.joining.found_by.Goals as goal
 
-pub grade_of-requires : goal.grade_of-requires
-grade_of-requires c = operand_of (record { of_field = c.args.squares.now.of_field; below = c.requires })
+pub invariant_of-ring : goal.invariant_of-ring
+invariant_of-ring c = record { in_range = (operand_of (record { of_field = c.args.squares.now.of_field; below = c.requires })).in_range }
 
 pub returns : goal.returns
 unfolding found_by

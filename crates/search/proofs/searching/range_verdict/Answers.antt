@@ -7,8 +7,8 @@ use Rattle.search.proofs.searching.range_verdict.Goals as goal
 
 pub returns-then-last-first : goal.returns-then-last-first
 returns-then-last-first c =
-    c.refused.ensures ∙ ap checked_of (sym (range_empty c.args.f c.args.first c.args.last c.if-last-first.true))
+    c.refused.ensures ∙ ap checked_of (sym (range_empty c.args.ring.f c.args.first c.args.last c.if-last-first.true))
 
 pub returns : goal.returns
 returns c =
-    c.field_verdict.ensures ∙ ap checked_of (sym (range_past c.args.f c.args.first c.args.last c.if-last-first.false))
+    c.field_verdict.ensures ∙ ap checked_of (sym (range_past c.args.ring.f c.args.first c.args.last c.if-last-first.false))

@@ -2,23 +2,35 @@
 -- Assumes nothing.
 use mathlib.Core.List.{[]}
 use mathlib.Core.List.{◌∷◌}
-use Rattle.refusals.specs.Orders.{first-clear}
-use Rattle.refusals.specs.Answered.{judged_clear, then_refused, then_rest}
-use Rattle.field.specs.Refusals.{degree_rule, operand_order, field_order}
-use Rattle.field.specs.Orders.{in_range}
+use Rattle.refusals.specs.Verdicts.{first_of}
+use Rattle.refusals.specs.Orders.{part-refused, part-clear}
+use Rattle.refusals.specs.Answered.{judged_clear, judged_verdict}
+use Rattle.field.specs.Refusals.{operand_order, field_order}
 use Rattle.search.specs.Answers.{range_rule}
 use Rattle.std.proofs.Common.{rules, ◌≡◌, ◌∙◌}
 use Rattle.std.specs.Prelude.{Err}
 use Rattle.search.proofs.searching.search_verdict.Goals as goal
 
-pub range_verdict-requires : goal.range_verdict-requires
-range_verdict-requires c = in_range c.args.f c.degree_of.result c.degree_of.ensures (first-clear (degree_rule c.args.f) _ (judged_clear _ c.operands_verdict.ensures c.in_ok-operands_verdict.was)).0
+pub returns-in_err-ring : goal.returns-in_err-ring
+returns-in_err-ring c =
+    let r = c.in_err-ring.field-0.0 in
+    let e : c.from_residual.result ≡ Err r = search rules in
+    rw e
+    (part-refused (operand_order c.args.f (c.args.first ∷ c.args.last ∷ [])) (range_rule c.args.first c.args.last ∷ field_order c.args.f) r.fault r.place c.in_err-ring.ensures)
 
-pub returns-in_err-operands_verdict : goal.returns-in_err-operands_verdict
-returns-in_err-operands_verdict c =
-    let e : c.from_residual.result ≡ Err c.in_err-operands_verdict.field-0.0 = search rules in
-    e ∙ then_refused (operand_order c.args.f (c.args.first ∷ c.args.last ∷ [])) (range_rule c.args.first c.args.last ∷ field_order c.args.f) c.operands_verdict.ensures c.in_err-operands_verdict.was
+pub returns-in_err-range_verdict : goal.returns-in_err-range_verdict
+returns-in_err-range_verdict c =
+    let e : c.from_residual-in_err-range_verdict.result ≡ Err c.in_err-range_verdict.field-0.0 = search rules in
+    let judged = rw c.in_ok-ring.ensures.0 at
+    (judged_verdict (first_of (range_rule c.args.first c.args.last ∷ field_order c.in_ok-ring.ring.f)) c.range_verdict.ensures c.in_err-range_verdict.was) in
+    rw e
+    (part-clear (operand_order c.args.f (c.args.first ∷ c.args.last ∷ [])) (range_rule c.args.first c.args.last ∷ field_order c.args.f) c.in_ok-ring.ensures.2 ∙ judged)
 
 pub returns : goal.returns
 returns c =
-    then_rest (operand_order c.args.f (c.args.first ∷ c.args.last ∷ [])) (range_rule c.args.first c.args.last ∷ field_order c.args.f) c.operands_verdict.ensures c.in_ok-operands_verdict.was c.range_verdict.ensures
+    let judged = rw c.in_ok-ring.ensures.0 at
+    (judged_clear (first_of (range_rule c.args.first c.args.last ∷ field_order c.in_ok-ring.ring.f)) c.range_verdict.ensures c.in_ok-range_verdict.was) in (
+      c.in_ok-ring.ensures.0,
+      c.in_ok-ring.ensures.1,
+      part-clear (operand_order c.args.f (c.args.first ∷ c.args.last ∷ [])) (range_rule c.args.first c.args.last ∷ field_order c.args.f) c.in_ok-ring.ensures.2 ∙ judged,
+    )

@@ -15,15 +15,15 @@ use Rattle.search.proofs.walking.walk.Goals.{After-new-m, After-new-tables}
 use Rattle.search.proofs.walking.walk.Goals as goal
 
 -- the squares are those of f
-m_f : (t : After-new-m) → t.new-m.result.squares.now.f ≡ t.args.f
+m_f : (t : After-new-m) → t.new-m.result.squares.now.f ≡ t.args.ring.f
 m_f t = ap (λ (s : Squares). s.f) t.new-m.ensures ∙ t.new-squares.ensures.0
 
-m_n : (t : After-new-m) → t.new-m.result.squares.now.n ≡ t.args.n
+m_n : (t : After-new-m) → t.new-m.result.squares.now.n ≡ t.args.ring.n
 m_n t = ap (λ (s : Squares). s.n) t.new-m.ensures ∙ t.new-squares.ensures.1
 
 pub first_normal-requires : goal.first_normal-requires
 first_normal-requires c =
-    let part : PartOf c.args.n c.args.first c.args.last = record { within = omega (arith, c.requires.0.ordered); elements = c.requires.0.elements } in
+    let part : PartOf c.args.ring.n c.args.first c.args.last = record { within = omega (arith, c.requires.0.ordered); elements = c.requires.0.elements } in
     (rw (m_n (goal.at.first_normal-requires c).After-new-m) part)
 
 pub new-reference-requires : goal.new-reference-requires
@@ -35,29 +35,29 @@ new-reference-requires c =
     )
 
 -- and so are the tables
-tables_f : (t : After-new-tables) (m : After-new-m) → t.new-m.result ≡ m.new-m.result → f_of t.new-tables.result.reference ≡ m.args.f
+tables_f : (t : After-new-tables) (m : After-new-m) → t.new-m.result ≡ m.new-m.result → f_of t.new-tables.result.reference ≡ m.args.ring.f
 tables_f t m e = ap (λ (m : Modulus). m.squares.now.f) (t.new-tables.ensures ∙ t.new-reference.ensures ∙ e) ∙ m_f m
 
-tables_n : (t : After-new-tables) (m : After-new-m) → t.new-m.result ≡ m.new-m.result → n_of t.new-tables.result.reference ≡ m.args.n
+tables_n : (t : After-new-tables) (m : After-new-m) → t.new-m.result ≡ m.new-m.result → n_of t.new-tables.result.reference ≡ m.args.ring.n
 tables_n t m e = ap (λ (m : Modulus). m.squares.now.n) (t.new-tables.ensures ∙ t.new-reference.ensures ∙ e) ∙ m_n m
 
 pub walk_on-requires : goal.walk_on-requires
 walk_on-requires c =
     let first = c.in-Some.ensures in
-    let part : PartOf c.args.n c.in-Some.b c.args.last = record { within = first.1.upto; elements = c.requires.0.elements } in
+    let part : PartOf c.args.ring.n c.in-Some.b c.args.last = record { within = first.1.upto; elements = c.requires.0.elements } in
     let place = goal.at.walk_on-requires c in
     (rw (tables_n place.After-new-tables place.After-new-m refl) part, omega (arith, c.requires.1, first.1.since))
 
 pub returns-in-None : goal.returns-in-None
 returns-in-None c =
     let m = (goal.at.returns-in-None c).After-new-m in
-    let begun : FirstFrom c.args.f c.args.n (normal_leader c.args.f c.args.n) c.args.first c.args.last (c.args.last + 1) = rw (m_f m, m_n m) at c.in-None.ensures in
-    begun_nothing c.args.f c.args.n c.args.first c.args.last (c.args.last + 1) (normal_leader c.args.f c.args.n) begun (as_answer c.args.held) (omega arith)
+    let begun : FirstFrom c.args.ring.f c.args.ring.n (normal_leader c.args.ring.f c.args.ring.n) c.args.first c.args.last (c.args.last + 1) = rw (m_f m, m_n m) at c.in-None.ensures in
+    begun_nothing c.args.ring.f c.args.ring.n c.args.first c.args.last (c.args.last + 1) (normal_leader c.args.ring.f c.args.ring.n) begun (as_answer c.args.held) (omega arith)
 
 pub returns-in-Some : goal.returns-in-Some
 returns-in-Some c =
-    let f = c.args.f in
-    let n = c.args.n in
+    let f = c.args.ring.f in
+    let n = c.args.ring.n in
     let place = goal.at.returns-in-Some c in
     let m = place.After-new-m in
     let begun : FirstFrom f n (normal_leader f n) c.args.first c.args.last c.in-Some.b = rw (m_f m, m_n m) at c.in-Some.ensures.1 in
