@@ -48,11 +48,12 @@ pub row_put : (sheet : List ℕ) (i : ℕ) {start t1 t2 t3 t4 : List ℕ} {at m1
 unfolding row_line
 row_put sheet i ec ev et p q r s = rw (← ec, ← ev, ← et) (put_then (put_then (put_then p q) r) s)
 
-pub rows_none : (start sheet : List ℕ) → Put start 0 (row_lines sheet 0) start 0
+pub rows_none : (start sheet : List ℕ) (at : ℕ) → at ≤ length start → Put start at (row_lines sheet 0) start at
 unfolding row_lines
-rows_none start sheet = put-none start 0 (omega arith)
+rows_none start sheet at h = put-none start at h
 
-pub rows_turn : (sheet : List ℕ) (i : ℕ) {start b c : List ℕ} {m n : ℕ} → Put start 0 (row_lines sheet i) b m → Put b m (row_line sheet i) c n → Put start 0 (row_lines sheet (i + 1)) c n
+pub rows_turn : (sheet : List ℕ) (i : ℕ) {start b c : List ℕ} {at m n : ℕ}
+    → Put start at (row_lines sheet i) b m → Put b m (row_line sheet i) c n → Put start at (row_lines sheet (i + 1)) c n
 unfolding row_lines
 rows_turn sheet i p q = rw (add-one i) (put_then p q)
 
@@ -63,9 +64,9 @@ pub last-put : (complexity : ℕ) {start t1 t2 t3 t4 : List ℕ} {at m1 m2 m3 m4
 unfolding last_line
 last-put complexity e p q r s = rw (← e) (put_then (put_then (put_then p q) r) s)
 
-pub refused-put : (number place : ℕ) {start t1 t2 t3 : List ℕ} {m1 m2 m3 : ℕ}
-    → Put start 0 refused_word t1 m1 → Put t1 m1 (number_then number space) t2 m2 → Put t2 m2 (number_then place newline) t3 m3
-    → Put start 0 (refused_line number place) t3 m3
+pub refused-put : (number place : ℕ) {start t1 t2 t3 : List ℕ} {at m1 m2 m3 : ℕ}
+    → Put start at refused_word t1 m1 → Put t1 m1 (number_then number space) t2 m2 → Put t2 m2 (number_then place newline) t3 m3
+    → Put start at (refused_line number place) t3 m3
 unfolding refused_line
 refused-put number place p q r = put_then (put_then p q) r
 

@@ -1,17 +1,26 @@
 -- Text put into a lent buffer: bytes at a place, and more bytes after them.
 --
 --   Put start at bytes text next   text is start with the bytes at a place, and next is the place after them
+--   Puts old bytes new             the same of a lent text and its place, before and after
+--   Same old new                   the text is still the one that was lent, and as long
 --
 -- Assumes nothing.
 use Rattle.std.specs.Prelude.{◌≡◌, List, [], ◌∷◌, ◌++◌, ℕ, ◌+◌, ◌≤◌, ◌<◌, length, drop, set}
 use Rattle.std.proofs.Common.{sym, ap, ◌∙◌, add-zero, add_assoc, zero-add, arith, length-append, length-take-le}
 use Rattle.io.specs.Counts.{IsPrefixLen}
+use Rattle.listing.specs.declared.putting.Lent.{Lent}
 use Rattle.sheet.specs.Bytes.{pasted, pasted-none, pasted_length, pasted-next, pasted-set}
 
 pub record Put (start : List ℕ) (at : ℕ) (bytes text : List ℕ) (next : ℕ) : Type 0 where
   pub holds : text ≡ pasted start at bytes
   pub ends : next ≡ at + length bytes
   pub room : next ≤ length start
+
+abbrev pub Puts : (old : Lent) (bytes : List ℕ) (new : Lent) → Type 0
+Puts old bytes new = Put old.text.now old.at bytes new.text.now new.at
+
+abbrev pub Same : (old new : Lent) → Type 0
+Same old new = (new.text.ghost_name ≡ old.text.ghost_name) × (length new.text.now ≡ length old.text.now)
 
 pub put-length : {start : List ℕ} {at : ℕ} {bytes text : List ℕ} {next : ℕ} → Put start at bytes text next → length text ≡ length start
 put-length {start} {at} {bytes} p = ap length p.holds ∙ pasted_length start at bytes (omega (arith, p.ends, p.room))

@@ -5,10 +5,10 @@ ghost use Rattle.normal.specs.Grades.{grade_number};
 ghost use Rattle.sheet.specs.Record.{record_size};
 ghost use Rattle.listing.specs.Text.{row_line, row_lines, last_line, refused_line};
 ghost use Rattle.listing.specs.Room.{row_room, last_room, refused_room};
-ghost use Rattle.listing.specs.Putting.{Put};
+ghost use Rattle.listing.specs.Putting.{Puts, Same};
 
-use super::putting::{NUMBER_ROOM, put_bytes, put_number};
-use normal::{Grade, grade_number};
+use super::putting::{Lent, NUMBER_ROOM};
+use normal::Grade;
 use sheet::row_at;
 
 pub const SPACE: u8 = 32;
@@ -20,51 +20,54 @@ pub const ROW_ROOM: usize = 4 * NUMBER_ROOM;
 
 pub const LAST_ROOM: usize = 11 + NUMBER_ROOM + 6 + NUMBER_ROOM;
 
-// Row i of the sheet: its number, conjugate, inverse row and table row.
-fn put_row(text: &mut [u8], at: usize, sheet: &[u8], i: usize) -> usize
-    requires { (at + row_room ≤ length text.old) × (record_size * i + record_size ≤ length sheet.now) }
-    ensures put { Put text.old at (row_line sheet.now i) text.new result }
-    ensures short { result ≤ at + row_room }
-{
-    let row = row_at(sheet, i);
-    let second = put_number(text, at, i as u64, SPACE);
-    let third = put_number(text, second, row.conjugate, SPACE);
-    let fourth = put_number(text, third, row.inverse, SPACE);
-    put_number(text, fourth, row.table, NEWLINE)
-}
-
-// The first n rows, at the text's front.
-pub fn put_rows(text: &mut [u8], sheet: &[u8], n: usize) -> usize
-    requires { (n ≤ limit) × (row_room * n ≤ length text.old) × (record_size * n ≤ length sheet.now) }
-    ensures put { Put text.old 0 (row_lines sheet.now n) text.new result }
-    ensures short { result ≤ row_room * n }
-{
-    let mut at: usize = 0;
-    for i in 0..n {
-        at = put_row(text, at, sheet, i);
+impl Lent<'_> {
+    // Row i of the sheet: its number, conjugate, inverse row and table row.
+    fn row(&mut self, sheet: &[u8], i: usize)
+        requires { (self.old.at + row_room ≤ length self.old.text.now) × (record_size * i + record_size ≤ length sheet.now) }
+        ensures put { Puts self.old (row_line sheet.now i) self.new }
+        ensures short { self.new.at ≤ self.old.at + row_room }
+        ensures same { Same self.old self.new }
+    {
+        let row = row_at(sheet, i);
+        self.number(i as u64, SPACE);
+        self.number(row.conjugate, SPACE);
+        self.number(row.inverse, SPACE);
+        self.number(row.table, NEWLINE);
     }
-    at
-}
 
-// The last line.
-pub fn put_last(text: &mut [u8], at: usize, complexity: u32, grade: Grade) -> usize
-    requires { at + last_room ≤ length text.old }
-    ensures { Put text.old at (last_line complexity (grade_number grade)) text.new result }
-{
-    let number = grade_number(grade);
-    let first = put_bytes(text, at, b"complexity ");
-    let second = put_number(text, first, complexity as u64, SPACE);
-    let third = put_bytes(text, second, b"grade ");
-    put_number(text, third, number, NEWLINE)
-}
+    // The first n rows.
+    pub fn rows(&mut self, sheet: &[u8], n: usize)
+        requires { (n ≤ limit) × (self.old.at + row_room * n ≤ length self.old.text.now) × (record_size * n ≤ length sheet.now) }
+        ensures put { Puts self.old (row_lines sheet.now n) self.new }
+        ensures short { self.new.at ≤ self.old.at + row_room * n }
+        ensures same { Same self.old self.new }
+    {
+        for i in 0..n {
+            self.row(sheet, i);
+        }
+    }
 
-// The line of a refusal.
-pub fn put_refused(text: &mut [u8], number: u8, place: usize) -> usize
-    requires { refused_room ≤ length text.old }
-    ensures put { Put text.old 0 (refused_line number place) text.new result }
-    ensures short { result ≤ refused_room }
-{
-    let first = put_bytes(text, 0, b"refused ");
-    let second = put_number(text, first, number as u64, SPACE);
-    put_number(text, second, place as u64, NEWLINE)
+    // The last line.
+    pub fn last(&mut self, complexity: u32, grade: Grade)
+        requires { self.old.at + last_room ≤ length self.old.text.now }
+        ensures put { Puts self.old (last_line complexity (grade_number grade)) self.new }
+        ensures same { Same self.old self.new }
+    {
+        self.bytes(b"complexity ");
+        self.number(u64::from(complexity), SPACE);
+        self.bytes(b"grade ");
+        self.number(u64::from(grade), NEWLINE);
+    }
+
+    // The line of a refusal.
+    pub fn refused(&mut self, number: u8, place: usize)
+        requires { self.old.at + refused_room ≤ length self.old.text.now }
+        ensures put { Puts self.old (refused_line number place) self.new }
+        ensures short { self.new.at ≤ self.old.at + refused_room }
+        ensures same { Same self.old self.new }
+    {
+        self.bytes(b"refused ");
+        self.number(u64::from(number), SPACE);
+        self.number(place as u64, NEWLINE);
+    }
 }

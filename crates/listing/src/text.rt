@@ -3,8 +3,8 @@ ghost use Rattle.std.specs.Prelude.{◌≡◌, ◌++◌, length, drop};
 ghost use Rattle.io.specs.Counts.{IsPrefixLen};
 ghost use Rattle.listing.specs.Text.{listing_of};
 
-use super::cause::put_cause;
-use super::lines::{LAST_ROOM, ROW_ROOM, put_last, put_refused, put_rows};
+use super::lines::{LAST_ROOM, ROW_ROOM};
+use super::putting::Lent;
 use causes::why;
 use gf2::LIMIT;
 use sheet::{RECORD, read};
@@ -19,15 +19,16 @@ pub fn listing(sheet: &[u8], text: &mut [u8; LISTING_ROOM]) -> usize
     ensures listed { text.new ≡ listing_of sheet.now ++ drop (length (listing_of sheet.now)) text.old }
     ensures counted { IsPrefixLen result text.new }
 {
+    let mut lent = Lent { text, at: 0 };
     match read(sheet) {
         Err(refusal) => {
-            let at = put_refused(text, refusal.fault.number(), refusal.place);
-            put_cause(text, at, why(sheet))
+            lent.refused(refusal.fault.number(), refusal.place);
+            lent.cause(why(sheet));
         }
         Ok(summary) => {
-            let grade = summary.grade;
-            let at = put_rows(text, sheet, sheet.len() / RECORD);
-            put_last(text, at, summary.complexity, grade)
+            lent.rows(sheet, sheet.len() / RECORD);
+            lent.last(summary.complexity, summary.grade);
         }
     }
+    lent.at
 }

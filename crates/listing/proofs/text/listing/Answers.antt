@@ -3,31 +3,27 @@
 use mathlib.Core.Path.{sym, ◌∙◌}
 use native.Mathlib.Omega.{arith}
 use Rattle.sheet.proofs.Answered.{done-shaped}
-use Rattle.listing.specs.Putting.{put-length}
-use Rattle.listing.specs.Listing.{rows_fit, refused_fits, listed-done, listed-refused}
+use Rattle.listing.specs.Listing.{Listed, rows_fit, listed-done, listed-refused}
 use Rattle.listing.proofs.text.listing.Goals as goal
+use Rattle.listing.proofs.text.listing.Goals.{in-Err, in-Ok}
 
-pub put_refused-at-requires : goal.put_refused-at-requires
-put_refused-at-requires c = omega (arith, refused_fits)
-
-pub put_cause-requires : goal.put_cause-requires
-put_cause-requires c = omega (arith, refused_fits, c.put_refused-at.ensures.short, put-length c.put_refused-at.ensures.put)
-
-pub put_rows-at-requires : goal.put_rows-at-requires
-put_rows-at-requires c =
+pub rows-requires : goal.rows-requires
+rows-requires c =
     let z = (done-shaped c.args.sheet.now c.in-Ok.summary (sym c.read.ensures.answer ∙ c.in-Ok.is)).size in
     (z.most, omega (arith, rows_fit _ z.most), omega arith)
 
-pub put_last-requires : goal.put_last-requires
-put_last-requires c =
+pub last-requires : goal.last-requires
+last-requires c =
     let z = (done-shaped c.args.sheet.now c.in-Ok.summary (sym c.read.ensures.answer ∙ c.in-Ok.is)).size in
-    omega (arith, rows_fit _ z.most, c.put_rows-at.ensures.short, put-length c.put_rows-at.ensures.put)
+    omega (arith, rows_fit _ z.most, c.rows.ensures.short)
 
-pub returns-in-Err : goal.returns-in-Err
-returns-in-Err c =
-    let whole = listed-refused c.args.sheet.now c.in-Err.refusal (sym c.read.ensures.answer ∙ c.in-Err.is)
-    (rw c.number.ensures at c.put_refused-at.ensures.put) c.why.ensures.answer c.put_cause.ensures.put in record { size = whole.0; listed = whole.1.0; counted = whole.1.1 }
-
-pub returns-in-Ok : goal.returns-in-Ok
-returns-in-Ok c =
-    let whole = listed-done c.args.sheet.now c.in-Ok.summary (sym c.read.ensures.answer ∙ c.in-Ok.is) c.put_rows-at.ensures.put c.put_last.ensures in record { size = whole.0; listed = whole.1.0; counted = whole.1.1 }
+pub returns : goal.returns
+returns c =
+    let whole : Listed c.args.text.now c.args.sheet.now c.match-read.lent.text.now c.match-read.lent.at =
+    elim c.match-read.branch [
+      | in-Err w ↦ rw w.lent-is
+          (listed-refused c.args.sheet.now w.in-Err.refusal (sym c.read.ensures.answer ∙ w.in-Err.is)
+          (rw w.number.ensures at w.refused.ensures.put) w.why.ensures.answer w.cause.ensures.put)
+      | in-Ok w ↦ rw w.lent-is (listed-done c.args.sheet.now w.in-Ok.summary (sym c.read.ensures.answer ∙ w.in-Ok.is) w.rows.ensures.put w.last.ensures.put)
+    ] in
+    record { size = whole.0; listed = whole.1.0; counted = whole.1.1 }
