@@ -70,10 +70,3 @@ impl From<Grade> for u64 {
         }
     }
 }
-
-// The same by a name, for callers that have no type at hand that says it.
-pub fn grade_number(grade: Grade) -> u64
-    ensures { result ≡ grade_number grade }
-{
-    u64::from(grade)
-}

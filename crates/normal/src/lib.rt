@@ -11,6 +11,6 @@ mod product;
 
 pub use basis::{Basis, build_basis};
 pub use by_bytes::product_by_bytes;
-pub use grade::{Grade, complexity_of, grade_number, grade_of};
+pub use grade::{Grade, complexity_of, grade_of};
 pub use power::inverse_of;
 pub use product::product_of;
