@@ -33,9 +33,8 @@ impl Lent<'_> {
         ensures put { Puts self.old (difference_line_lem difference) self.new }
         ensures same { Same self.old self.new }
     {
-        let field = difference.field;
         self.number(difference.place as u64, SPACE);
-        self.field(field);
+        self.field(difference.field);
         self.number(difference.stored, SPACE);
         self.number(difference.right, NEWLINE);
     }
