@@ -1,6 +1,6 @@
 -- What the basis that was built of an element tells: whether the element is normal, its complexity, its inverse rows.
 -- Assumes nothing.
-use Rattle.std.specs.Prelude.{◌≡◌, ℕ, true, false, List, take, Result, Ok, Err, is_ok}
+use Rattle.std.specs.Prelude.{◌≡◌, ℕ, List, take, Result, Ok, Err, is_ok}
 use Rattle.std.proofs.Math.Path.{sym, ap}
 use Rattle.std.proofs.Common.{◌∙◌}
 use Rattle.normal.specs.Normal.{normal, inverse_rows, table_rows, complexity, padded}

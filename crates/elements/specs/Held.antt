@@ -1,23 +1,10 @@
--- What a reference and its tables hold, as the laws take it: their types keep the parts.
+-- What tables hold, as the laws take it: their type keeps the parts, each of its own field, and that the fields are the same.
 --
---   f_of r, n_of r, of_field r   the polynomial of the field, its degree, and that it is accepted
---   reference_of r               r holds the sums of the inverse rows of a normal element
+--   reference_of t   t holds the sums of the inverse rows of a normal element of the field of its modulus
 --
 -- Assumes nothing.
-use Rattle.std.specs.Prelude.{ℕ}
-use Rattle.elements.specs.Fields.{FieldOf}
-use Rattle.elements.specs.Reference as law
-use Rattle.elements.specs.declared.reference.Reference.{Reference}
+use Rattle.elements.specs.Reference.{Reference}
+use Rattle.elements.specs.declared.upper.Tables.{Tables}
 
-abbrev pub f_of : Reference → ℕ
-f_of r = r.modulus.squares.now.f
-
-abbrev pub n_of : Reference → ℕ
-n_of r = r.modulus.squares.now.n
-
-abbrev pub of_field : (r : Reference) → FieldOf (f_of r) (n_of r)
-of_field r = r.modulus.squares.now.of_field
-
-abbrev pub reference_of : (r : Reference) → law.Reference (f_of r) (n_of r) r.sums
-reference_of r =
-    record { of_field = of_field r; element = r.element; below = r.below; is_normal = r.is_normal; held = r.held }
+pub reference_of : (t : Tables) → Reference t.modulus.f t.modulus.n t.reference.now.sums
+reference_of t = rw (t.of_reference.0, t.of_reference.1) at t.reference.now.of_normal

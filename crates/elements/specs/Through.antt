@@ -1,18 +1,26 @@
 -- An element y seen through a reference: what bytes pick is its coordinates in the reference's basis; a witness for them decides whether y is
--- normal, and gives the rows of its table.
+-- normal, and gives the rows of its table. Last: the sums have one reference alone.
 -- Assumes nothing.
 use Rattle.std.specs.Prelude.{◌≡◌, ℕ, ◌+◌, ◌^◌, ◌<◌, true, false, List, slice_index}
 use Rattle.std.proofs.Common.{sym, ap, ◌∙◌, arith, pow_mono}
+use Rattle.std.proofs.Math.Nat.{ℕ_set}
+use Rattle.std.proofs.Math.Path.{path_j}
+use Rattle.std.proofs.Math.Bool.{Bool-set}
+use mathlib.Core.List.{is_set}
+use Rattle.std.specs.Coded.{le_prop}
 use Rattle.gf2.specs.Poly.{mul_mod}
 use Rattle.field.specs.Field.{squared}
-use Rattle.field.specs.Frobenius.{squared_fixes}
+use Rattle.field.specs.Frobenius.{squared_fixes, squared_start}
+use Rattle.field.specs.Ring.{one-lt}
 use Rattle.rows.specs.Rows.{comb, Independent}
-use Rattle.rows.specs.Sums.{comb-lt}
-use Rattle.rows.specs.ByteSums.{bytes, picked_bytes, bytes_pick}
+use Rattle.rows.specs.Sums.{comb-lt, comb-power}
+use Rattle.rows.specs.ByteSums.{bytes, byte_sums, picked_bytes, bytes_pick}
 use Rattle.normal.specs.Normal.{conjugates, normal, inverse_rows, table_rows, padded}
-use Rattle.normal.proofs.Coordinates.{normal-means, inverse_rows-inverse, there_and_back}
+use Rattle.normal.proofs.Coordinates.{normal-means, inverse_rows-inverse, there_and_back, back-and-there}
 use Rattle.normal.specs.Filling.{padded-comb}
+use Rattle.normal.specs.Selected.{conjugates-at}
 use Rattle.normal.proofs.Reference.{zero_not_normal, unit-normal, unit_row}
+use Rattle.elements.specs.Fields.{FieldOf, FieldOf-prop}
 use Rattle.elements.specs.Reference.{Reference, through}
 use Rattle.elements.specs.Units.{Witnesses}
 use Rattle.elements.specs.declared.units.Witness.{Witness}
@@ -76,3 +84,42 @@ module _ (f n : ℕ) (sums : List ℕ) (ref : Reference f n sums) where
           ref.below free r unit i h
           ∙ ap (λ (x : ℕ). mul_mod (2 ^ n + 1) n (comb (inverse_rows f n ref.element) x) r) (sym e)
           ∙ ap (λ (x : ℕ). mul_mod (2 ^ n + 1) n x r) (sym (through-comb p hp))
+
+-- ---- which element a reference is
+
+-- it is the one whose coordinates in its own basis are 1, so that only one proof says whose sums these are, as a field of a type is to have
+module _ (f n : ℕ) (sums : List ℕ) where
+  first_conjugate : (x : Reference f n sums) → comb (conjugates f n x.element) 1 ≡ x.element
+  first_conjugate x =
+      comb-power (conjugates f n x.element) 0 ∙ conjugates-at f n 0 x.element (omega (arith, x.of_field.two)) ∙ sym (squared_start f n x.element)
+
+  own_coordinates : (x : Reference f n sums) → through sums x.element ≡ 1
+  own_coordinates x =
+      through-comb f n sums x x.element x.below
+      ∙ ap (comb (inverse_rows f n x.element)) (sym (first_conjugate x))
+      ∙ back-and-there f n x.of_field.is_degree x.element x.below (free f n sums x) 1 (one-lt n (omega (arith, x.of_field.two)))
+
+  same_element : (x y : Reference f n sums) → x.element ≡ y.element
+  same_element x y =
+      sym (image_of f n sums y x.element x.below)
+      ∙ ap (comb (conjugates f n y.element)) (own_coordinates x)
+      ∙ first_conjugate y
+
+  abbrev Parts : ℕ → Type 0
+  Parts e = FieldOf f n × (e < 2 ^ n) × (normal f n e ≡ true) × (sums ≡ byte_sums bytes (padded (inverse_rows f n e)))
+
+  made : (e : ℕ) → Parts e → Reference f n sums
+  made e p = record { of_field = p.0; element = e; below = p.1; is_normal = p.2; held = p.3 }
+
+  parts : (x : Reference f n sums) → Parts x.element
+  parts x = (x.of_field, x.below, x.is_normal, x.held)
+
+  parts-prop : (e : ℕ) → IsProp (Parts e)
+  parts-prop e = hlevel (FieldOf-prop f n, le_prop, Bool-set, is_set ℕ_set)
+
+  same : (e : ℕ) (u : Parts e) {d : ℕ} → e ≡ d → (v : Parts d) → made e u ≡ made d v
+  same e u = path_j (λ (d : ℕ) q. (v : Parts d) → made e u ≡ made d v) (λ v. ap (made e) (parts-prop e u v))
+
+  pub reference-prop : IsProp (Reference f n sums)
+  unfolding made parts
+  reference-prop x y = same x.element (parts x) (same_element x y) (parts y)

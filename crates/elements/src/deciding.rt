@@ -2,7 +2,6 @@
 // element's own basis.
 ghost use Rattle.std.specs.Prelude.{ℕ, ◌^◌, ◌<◌};
 ghost use Rattle.elements.specs.Fields.{ElementOf};
-ghost use Rattle.elements.specs.Held.{f_of, n_of};
 ghost use Rattle.elements.specs.Decided.{Decides};
 
 use super::units::{Turns, Witness};
@@ -25,13 +24,13 @@ fn decide_by_basis(f: u64, n: u32, y: u64) -> Option<u32>
 impl<'a> Tables<'a> {
     // How many ones the table of y has, if y is normal, through the reference: the count is exact up to the bound. None: y is not normal.
     pub fn decide(&self, y: u64, bound: u32) -> Option<u32>
-        requires { y < 2 ^ n_of self.now.reference }
-        ensures { Decides (f_of self.now.reference) (n_of self.now.reference) y bound result }
+        requires { y < 2 ^ self.now.modulus.n }
+        ensures { Decides self.now.modulus.f self.now.modulus.n y bound result }
     {
-        let squares = &self.reference.modulus.squares;
-        let turns = Turns { n: squares.n };
+        let m = self.modulus;
+        let turns = Turns { n: m.n };
         match turns.unit_of(self.reference.coordinates(y)) {
-            Witness::Unknown => decide_by_basis(squares.f, squares.n, y),
+            Witness::Unknown => decide_by_basis(m.f, m.n, y),
             Witness::Vanishes(_) => None,
             Witness::Inverse(r) => Some(self.ones_within(y, r, bound)),
         }

@@ -3,7 +3,6 @@ ghost use Rattle.std.specs.Prelude.{◌≡◌, ◌+◌, ◌*◌, ◌^◌, ◌<�
 ghost use Rattle.gf2.specs.Poly.{mul_mod};
 ghost use Rattle.normal.specs.Normal.{table_rows, complexity};
 ghost use Rattle.elements.specs.Reference.{through};
-ghost use Rattle.elements.specs.Held.{f_of, n_of};
 ghost use Rattle.elements.specs.Ones.{Within};
 ghost use Rattle.elements.specs.Units.{Witnesses};
 ghost use Rattle.elements.specs.declared.units.Witness.TheVariants.{Inverse};
@@ -25,10 +24,10 @@ impl<'a> Tables<'a> {
     // The coordinates of y times c in the reference's basis, and times r, where ys are the multiples of y and rs those of r. If r is the inverse of
     // y's coordinates this makes them those in the basis of y.
     fn row_through(&self, ys: &Multiples, rs: &Multiples, c: u64) -> u64
-        requires ys_are { (ys.now.f ≡ f_of self.now.reference) × (ys.now.n ≡ n_of self.now.reference) }
-        requires rs_are { (rs.now.f ≡ 2 ^ n_of self.now.reference + 1) × (rs.now.n ≡ n_of self.now.reference) }
-        requires element { c < 2 ^ n_of self.now.reference }
-        ensures { let f = f_of self.now.reference in let n = n_of self.now.reference in result ≡ mul_mod (2 ^ n + 1) n (through self.now.reference.sums (mul_mod f n ys.now.a c)) rs.now.a }
+        requires ys_are { (ys.now.f ≡ self.now.modulus.f) × (ys.now.n ≡ self.now.modulus.n) }
+        requires rs_are { (rs.now.f ≡ 2 ^ self.now.modulus.n + 1) × (rs.now.n ≡ self.now.modulus.n) }
+        requires element { c < 2 ^ self.now.modulus.n }
+        ensures { let f = self.now.modulus.f in let n = self.now.modulus.n in result ≡ mul_mod (2 ^ n + 1) n (through self.now.reference.now.sums (mul_mod f n ys.now.a c)) rs.now.a }
     {
         let wide = ys.wide_product(c);
         rs.turned_product(
@@ -39,23 +38,22 @@ impl<'a> Tables<'a> {
     // The number of ones in the table of y, where r is the inverse of y's coordinates in the reference's basis; a count that passes the bound may be
     // broken off. Rows 1 to n/2 are made, one at a time.
     pub fn ones_within(&self, y: u64, r: u64, bound: u32) -> u32
-        requires { (y < 2 ^ n_of self.now.reference) × Witnesses (n_of self.now.reference) (through self.now.reference.sums y) (Inverse r) }
-        ensures { Within bound result (complexity (table_rows (f_of self.now.reference) (n_of self.now.reference) y)) }
+        requires { (y < 2 ^ self.now.modulus.n) × Witnesses self.now.modulus.n (through self.now.reference.now.sums y) (Inverse r) }
+        ensures { Within bound result (complexity (table_rows self.now.modulus.f self.now.modulus.n y)) }
     {
-        let squares = &self.reference.modulus.squares;
-        let n = squares.n;
-        let ys = Multiples::new(squares.f, n, y);
-        let turns = Turns { n };
-        let rs = Multiples::new(turns.modulus(), n, r);
+        let m = self.modulus;
+        let ys = Multiples::new(m.f, m.n, y);
+        let turns = Turns { n: m.n };
+        let rs = Multiples::new(turns.modulus(), m.n, r);
         let mut count: u32 = 1;
         let mut c = y;
-        for i in 0..n / 2 {
+        for i in 0..m.n / 2 {
             if bound < count {
                 return count;
             }
-            c = squares.square(c);
+            c = self.squares.square(c);
             let row = self.row_through(&ys, &rs, c);
-            count += both(n, i + 1, u64::count_ones(row));
+            count += both(m.n, i + 1, u64::count_ones(row));
         }
         count
     }

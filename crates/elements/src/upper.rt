@@ -2,27 +2,32 @@
 // before it is reduced.
 ghost use Rattle.std.specs.Prelude.{◌≡◌};
 ghost use Rattle.rows.specs.ByteSums.{bytes, byte_sums};
-ghost use Rattle.elements.specs.Held.{f_of, n_of};
 ghost use Rattle.elements.specs.Upper.{upper_rows};
 
+use super::modulus::Modulus;
 use super::reference::Reference;
+use super::squares::Squares;
 use gf2::{LIMIT, multiply_by_x, power};
 use rows::{BYTE_SUMS, byte_sums};
 
-// A reference, and the sums that bytes pick of the coordinates of x^n to x^(2n-1).
+// What all elements of a field share: the squares, the modulus, a reference, and the sums that bytes pick of the coordinates of x^n to x^(2n-1).
 #[derive(Drop)]
 pub struct Tables<'a> {
-    pub reference: Reference<'a>,
+    pub squares: &'a Squares,
+    pub modulus: Modulus,
+    pub reference: &'a Reference,
     pub uppers: [u64; BYTE_SUMS],
-    pub ghost of_uppers: { uppers ≡ byte_sums bytes (upper_rows (f_of reference) (n_of reference) reference.sums) },
+    pub ghost of_squares: { (squares.now.f ≡ modulus.f) × (squares.now.n ≡ modulus.n) },
+    pub ghost of_reference: { (reference.now.f ≡ modulus.f) × (reference.now.n ≡ modulus.n) },
+    pub ghost of_uppers: { uppers ≡ byte_sums bytes (upper_rows modulus.f modulus.n reference.now.sums) },
 }
 
 // The coordinates of x^n to x^(2n-1).
 fn upper_rows(reference: &Reference) -> [u64; LIMIT]
-    ensures { result ≡ upper_rows (f_of reference.now) (n_of reference.now) reference.now.sums }
+    ensures { result ≡ upper_rows reference.now.f reference.now.n reference.now.sums }
 {
-    let f = reference.modulus.squares.f;
-    let n = reference.modulus.squares.n;
+    let f = reference.f;
+    let n = reference.n;
     let mut rows: [u64; LIMIT] = [0; LIMIT];
     let mut y = f - power(n as usize);
     for i in 0..n as usize {
@@ -32,13 +37,30 @@ fn upper_rows(reference: &Reference) -> [u64; LIMIT]
     rows
 }
 
-impl<'a> Tables<'a> {
-    // The tables of a reference.
-    pub fn new(reference: Reference<'a>) -> Self
-        ensures { result.reference.modulus ≡ reference.entry.modulus }
+impl Reference {
+    // The byte sums of these rows.
+    pub fn upper_sums(&self) -> [u64; BYTE_SUMS]
+        ensures { result ≡ byte_sums bytes (upper_rows self.now.f self.now.n self.now.sums) }
     {
         let mut uppers: [u64; BYTE_SUMS] = [0; BYTE_SUMS];
-        byte_sums(upper_rows(&reference), &mut uppers);
-        Tables { reference, uppers }
+        byte_sums(upper_rows(self), &mut uppers);
+        uppers
+    }
+}
+
+impl<'a> Tables<'a> {
+    // The tables that these are parts of.
+    pub fn new(squares: &'a Squares, modulus: Modulus, reference: &'a Reference) -> Self
+        requires of_squares { (squares.now.f ≡ modulus.f) × (squares.now.n ≡ modulus.n) }
+        requires of_reference { (reference.now.f ≡ modulus.f) × (reference.now.n ≡ modulus.n) }
+        ensures { (result.squares.now ≡ squares.now) × (result.modulus ≡ modulus) × (result.reference.now ≡ reference.now) }
+    {
+        let uppers = reference.upper_sums();
+        Tables {
+            squares,
+            modulus,
+            reference,
+            uppers,
+        }
     }
 }

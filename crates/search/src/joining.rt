@@ -1,11 +1,11 @@
 // Found records: the one place where they are made, and how one more is joined to what is held.
 ghost use Rattle.std.specs.Prelude.{◌≡◌, ◌+◌, ◌^◌, ◌<◌};
+ghost use Rattle.elements.specs.Fields.{ElementOf};
 ghost use Rattle.search.specs.Search.{precedes, with_count, better, joined, found_by, candidate_of, count_of};
 ghost use Rattle.search.specs.Joining.{as_answer, bound_of, Joinable};
 ghost use Rattle.search.specs.declared.answer.Search.TheVariants.{Found};
 
 use super::answer::Best;
-use elements::Squares;
 use field::Ring;
 use normal::grade_of;
 
@@ -13,14 +13,11 @@ use normal::grade_of;
 const UNBOUNDED: u32 = u32::MAX;
 
 // The found record of the normal leader a, whose table has so many ones, with this count. No other place makes one of an element.
-fn found_by(squares: &Squares, a: u64, ones: u32, count: u64) -> Best
-    requires { a < 2 ^ squares.now.n }
-    ensures { result ≡ with_count (found_by squares.now.f squares.now.n a ones) count }
+fn found_by(f: u64, n: u32, a: u64, ones: u32, count: u64) -> Best
+    requires { ElementOf f n a }
+    ensures { result ≡ with_count (found_by f n a ones) count }
 {
-    let ring = Ring {
-        f: squares.f,
-        n: squares.n,
-    };
+    let ring = Ring { f, n };
     Best {
         element: a,
         complexity: ones,
@@ -38,13 +35,13 @@ fn comes_before(c: u32, e: u64, d: u32, g: u64) -> bool
 
 // The better of a found record and that of the normal leader a, whose table has so many ones, with the counts of both. Only a new best
 // gets its grade.
-fn better_of(squares: &Squares, x: Best, a: u64, ones: u32) -> Best
-    requires { (a < 2 ^ squares.now.n) × (x.count + 1 < 2 ^ 64) }
-    ensures { result ≡ better x (found_by squares.now.f squares.now.n a ones) }
+fn better_of(f: u64, n: u32, x: Best, a: u64, ones: u32) -> Best
+    requires { ElementOf f n a × (x.count + 1 < 2 ^ 64) }
+    ensures { result ≡ better x (found_by f n a ones) }
 {
     let count = x.count + 1;
     if comes_before(ones, a, x.complexity, x.element) {
-        found_by(squares, a, ones, count)
+        found_by(f, n, a, ones, count)
     } else {
         Best { count, ..x }
     }
@@ -61,28 +58,30 @@ pub fn bound_of(held: Option<Best>) -> u32
 }
 
 // What is held, joined with the normal leader a, whose table has so many ones.
-fn join_leader(squares: &Squares, held: Option<Best>, a: u64, ones: u32) -> Best
-    requires { (a < 2 ^ squares.now.n) × (count_of (as_answer held) + 1 < 2 ^ 64) }
-    ensures { Found result ≡ joined (as_answer held) (Found (found_by squares.now.f squares.now.n a ones)) }
+fn join_leader(f: u64, n: u32, held: Option<Best>, a: u64, ones: u32) -> Best
+    requires { ElementOf f n a × (count_of (as_answer held) + 1 < 2 ^ 64) }
+    ensures { Found result ≡ joined (as_answer held) (Found (found_by f n a ones)) }
 {
     match held {
-        None => found_by(squares, a, ones, 1),
-        Some(x) => better_of(squares, x, a, ones),
+        None => found_by(f, n, a, ones, 1),
+        Some(x) => better_of(f, n, x, a, ones),
     }
 }
 
-// What is held, joined with the leader a: of so many ones, if it is normal.
+// What is held, joined with the leader a: of so many ones, if it is normal. f and n are numbers here, since its clause, which may ask for no more
+// than it did, asks for an element of their field and for no tables.
 pub fn join_decided(
-    squares: &Squares,
+    f: u64,
+    n: u32,
     held: Option<Best>,
     a: u64,
     decided: Option<u32>,
 ) -> Option<Best>
-    requires { Joinable squares.now.f squares.now.n (as_answer held) a decided }
-    ensures { as_answer result ≡ joined (as_answer held) (candidate_of squares.now.f squares.now.n a) }
+    requires { Joinable f n (as_answer held) a decided }
+    ensures { as_answer result ≡ joined (as_answer held) (candidate_of f n a) }
 {
     match decided {
         None => held,
-        Some(ones) => Some(join_leader(squares, held, a, ones)),
+        Some(ones) => Some(join_leader(f, n, held, a, ones)),
     }
 }

@@ -2,7 +2,6 @@
 // is found by building bases; it is then the reference through which it and all that follow are decided.
 ghost use Rattle.std.specs.Prelude.{◌≡◌, true, ◌+◌, ◌-◌, ◌^◌, ◌≤◌, ◌<◌};
 ghost use Rattle.normal.specs.Normal.{normal};
-ghost use Rattle.elements.specs.Held.{f_of, n_of};
 ghost use Rattle.search.specs.Search.{leader, normal_leader, joined, candidate_of, walked, ranged, count_of};
 ghost use Rattle.search.specs.Joining.{as_answer};
 ghost use Rattle.search.specs.Begun.{RangeOf, PartOf, trace_leader, FirstOf};
@@ -16,28 +15,36 @@ use gf2::Spread;
 use normal::build_basis;
 
 // Whether a is a leader of trace 1. A normal element has trace 1, so that no other can be a normal leader.
-fn is_trace_leader(m: &Modulus, a: u64) -> bool
-    requires { a < 2 ^ m.now.squares.now.n }
-    ensures { result ≡ trace_leader m.now.squares.now.f m.now.squares.now.n a }
+fn is_trace_leader(squares: &Squares, m: Modulus, a: u64) -> bool
+    requires of_squares { (squares.now.f ≡ m.f) × (squares.now.n ≡ m.n) }
+    requires element { a < 2 ^ m.n }
+    ensures { result ≡ trace_leader m.f m.n a }
 {
-    m.has_trace(a) && is_leader(m.squares, a)
+    m.has_trace(a) && is_leader(squares, a)
 }
 
 // Whether a is normal, by its own basis.
-fn is_normal(spread: &Spread, m: &Modulus, a: u64) -> bool
-    requires { a < 2 ^ m.now.squares.now.n }
-    ensures { result ≡ normal m.now.squares.now.f m.now.squares.now.n a }
+fn is_normal(spread: &Spread, m: Modulus, a: u64) -> bool
+    requires { a < 2 ^ m.n }
+    ensures { result ≡ normal m.f m.n a }
 {
-    build_basis(spread, m.squares.f, m.squares.n, a).is_ok()
+    build_basis(spread, m.f, m.n, a).is_ok()
 }
 
 // The first normal leader from first to last, by the bases of leaders, if there is one.
-fn first_normal(spread: &Spread, m: &Modulus, first: u64, last: u64) -> Option<u64>
-    requires { PartOf m.now.squares.now.n first last }
-    ensures { FirstOf m.now.squares.now.f m.now.squares.now.n (normal_leader m.now.squares.now.f m.now.squares.now.n) first last result }
+fn first_normal(
+    spread: &Spread,
+    squares: &Squares,
+    m: Modulus,
+    first: u64,
+    last: u64,
+) -> Option<u64>
+    requires of_squares { (squares.now.f ≡ m.f) × (squares.now.n ≡ m.n) }
+    requires part { PartOf m.n first last }
+    ensures { FirstOf m.f m.n (normal_leader m.f m.n) first last result }
 {
     for a in first..=last {
-        if is_trace_leader(m, a) && is_normal(spread, m, a) {
+        if is_trace_leader(squares, m, a) && is_normal(spread, m, a) {
             return Some(a);
         }
     }
@@ -46,24 +53,24 @@ fn first_normal(spread: &Spread, m: &Modulus, first: u64, last: u64) -> Option<u
 
 // What is held, joined with the leader a.
 fn join_next(tables: &Tables, held: Option<Best>, a: u64) -> Option<Best>
-    requires element { a < 2 ^ n_of tables.now.reference }
-    requires leads { leader (f_of tables.now.reference) (n_of tables.now.reference) a ≡ true }
+    requires element { a < 2 ^ tables.now.modulus.n }
+    requires leads { leader tables.now.modulus.f tables.now.modulus.n a ≡ true }
     requires counts { count_of (as_answer held) ≤ a }
-    ensures { as_answer result ≡ joined (as_answer held) (candidate_of (f_of tables.now.reference) (n_of tables.now.reference) a) }
+    ensures { as_answer result ≡ joined (as_answer held) (candidate_of tables.now.modulus.f tables.now.modulus.n a) }
 {
     let decided = tables.decide(a, bound_of(held));
-    join_decided(tables.reference.modulus.squares, held, a, decided)
+    join_decided(tables.modulus.f, tables.modulus.n, held, a, decided)
 }
 
 // What is held, joined with the elements from next to last.
 fn walk_on(tables: &Tables, held: Option<Best>, next: u64, last: u64) -> Option<Best>
-    requires { PartOf (n_of tables.now.reference) next last × (count_of (as_answer held) ≤ next) }
-    ensures { as_answer result ≡ joined (as_answer held) (walked (f_of tables.now.reference) (n_of tables.now.reference) next (last + 1 - next)) }
+    requires { PartOf tables.now.modulus.n next last × (count_of (as_answer held) ≤ next) }
+    ensures { as_answer result ≡ joined (as_answer held) (walked tables.now.modulus.f tables.now.modulus.n next (last + 1 - next)) }
 {
-    let m = tables.reference.modulus;
+    let m = tables.modulus;
     let mut found = held;
     for y in next..=last {
-        if is_trace_leader(&m, y) {
+        if is_trace_leader(tables.squares, m, y) {
             found = join_next(tables, found, y);
         }
     }
@@ -77,11 +84,11 @@ pub fn walk(spread: &Spread, ring: Ring, held: Option<Best>, first: u64, last: u
 {
     let squares = Squares::new(spread, ring.f, ring.n);
     let m = Modulus::new(&squares);
-    match first_normal(spread, &m, first, last) {
+    match first_normal(spread, &squares, m, first, last) {
         None => held,
         Some(b) => {
-            let reference = Reference::new(spread, m, b);
-            let tables = Tables::new(reference);
+            let reference = Reference::new(spread, ring.f, ring.n, b);
+            let tables = Tables::new(&squares, m, &reference);
             walk_on(&tables, held, b, last)
         }
     }

@@ -4,7 +4,7 @@ use Rattle.search.specs.Joining.{operand_of}
 use Rattle.search.proofs.joining.found_by.Goals as goal
 
 pub invariant_of-ring : goal.invariant_of-ring
-invariant_of-ring c = record { in_range = (operand_of (record { of_field = c.args.squares.now.of_field; below = c.requires })).in_range }
+invariant_of-ring c = record { in_range = (operand_of c.requires).in_range }
 
 pub returns : goal.returns
 unfolding found_by

@@ -10,12 +10,10 @@ use Rattle.search.proofs.joining.join_decided.Goals as goal
 
 pub returns-in-None : goal.returns-in-None
 returns-in-None c =
-    let s = c.args.squares.now in
-    join_not_normal s.f s.n (as_answer c.args.held) c.args.a c.args.decided c.requires c.in-None.is
+    join_not_normal c.args.f c.args.n (as_answer c.args.held) c.args.a c.args.decided c.requires c.in-None.is
 
 pub returns-in-Some : goal.returns-in-Some
 returns-in-Some c =
-    let s = c.args.squares.now in
     let h : Fits w32 c.in-Some.ones = search rules in
-    join_normal s.f s.n (as_answer c.args.held) c.args.a c.args.decided c.requires
+    join_normal c.args.f c.args.n (as_answer c.args.held) c.args.a c.args.decided c.requires
     c.in-Some.ones c.in-Some.is (omega (arith, h.fits)) (Found c.join_leader.result) c.join_leader.ensures

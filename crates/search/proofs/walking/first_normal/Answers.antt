@@ -13,18 +13,19 @@ use Rattle.search.proofs.walking.first_normal.Goals as goal
 
 pub loop-a-init : goal.loop-a-init
 loop-a-init c =
-    let s = c.args.m.now.squares.now in
-    (c.requires.within, walked_start s.f s.n c.args.first)
+    let s = c.args.m in
+    (c.requires.part.within, walked_start s.f s.n c.args.first)
 
 pub is_trace_leader-requires : goal.is_trace_leader-requires
-is_trace_leader-requires c = omega (arith, c.requires.elements, c.loop-a-test.true)
+is_trace_leader-requires c =
+    record { of_squares = c.requires.of_squares; element = omega (arith, c.requires.part.elements, c.loop-a-test.true) }
 
 pub is_normal-requires : goal.is_normal-requires
-is_normal-requires c = (omega (arith, c.requires.elements, c.loop-a-test.true))
+is_normal-requires c = (omega (arith, c.requires.part.elements, c.loop-a-test.true))
 
 pub returns-then-is_normal : goal.returns-then-is_normal
 returns-then-is_normal c =
-    let s = c.args.m.now.squares.now in (
+    let s = c.args.m in (
       c.loop-a-test.true,
       record {
         since = c.loop-a.auto.a;
@@ -37,8 +38,8 @@ returns-then-is_normal c =
 
 pub loop-a-preserved : goal.loop-a-preserved
 loop-a-preserved c =
-    let s = c.args.m.now.squares.now in
-    let below : c.loop-a.a < 2 ^ s.n = omega (arith, c.requires.elements, c.loop-a-test.true) in
+    let s = c.args.m in
+    let below : c.loop-a.a < 2 ^ s.n = omega (arith, c.requires.part.elements, c.loop-a-test.true) in
     let fails : normal_leader s.f s.n c.loop-a.a ≡ false =
     elim c.else-is_trace_leader.branch [
       | else-is_trace_leader-via-then-is_trace_leader+else-is_normal w ↦ not_normal s.f s.n c.loop-a.a
@@ -59,18 +60,18 @@ past f n first last a p e none =
 
 pub returns : goal.returns
 returns c =
-    let s = c.args.m.now.squares.now in
-    past s.f s.n c.args.first c.args.last c.loop-a.a c.requires.within (omega (arith, c.loop-a.invariant.0, c.loop-a-test.false)) c.loop-a.invariant.1
+    let s = c.args.m in
+    past s.f s.n c.args.first c.args.last c.loop-a.a c.requires.part.within (omega (arith, c.loop-a.invariant.0, c.loop-a-test.false)) c.loop-a.invariant.1
 
 pub returns-else-is_trace_leader : goal.returns-else-is_trace_leader
 returns-else-is_trace_leader c =
-    let s = c.args.m.now.squares.now in
-    let below : c.loop-a.a < 2 ^ s.n = omega (arith, c.requires.elements, c.loop-a-test.true) in
+    let s = c.args.m in
+    let below : c.loop-a.a < 2 ^ s.n = omega (arith, c.requires.part.elements, c.loop-a-test.true) in
     let fails : normal_leader s.f s.n c.loop-a.a ≡ false =
     elim c.else-is_trace_leader.branch [
       | else-is_trace_leader-via-then-is_trace_leader+else-is_normal w ↦ not_normal s.f s.n c.loop-a.a
           (trace-leader-leads s.f s.n c.loop-a.a (sym c.is_trace_leader.ensures ∙ w.if-is_trace_leader.true)) (sym w.is_normal.ensures ∙ w.if-is_normal.false)
       | else-is_trace_leader-via-else-is_trace_leader w ↦ not_trace-leader s.f s.n c.loop-a.a s.of_field below (sym c.is_trace_leader.ensures ∙ w.if-is_trace_leader.false)
     ] in
-    past s.f s.n c.args.first c.args.last (c.loop-a.a + 1) c.requires.within (omega arith)
+    past s.f s.n c.args.first c.args.last (c.loop-a.a + 1) c.requires.part.within (omega arith)
     (first_turn s.f s.n c.args.first c.loop-a.a c.loop-a.auto.a c.loop-a.invariant.1 fails)

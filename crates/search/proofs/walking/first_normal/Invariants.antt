@@ -6,4 +6,4 @@ use Rattle.search.specs.declared.answer.Search.TheVariants.{Nothing}
 use Rattle.search.proofs.walking.first_normal.Given as goal
 
 abbrev pub invariant-loop-a : goal.invariant-loop-a
-invariant-loop-a l = (l.a ≤ l.last + 1) × (walked l.m.squares.now.f l.m.squares.now.n l.first (l.a - l.first) ≡ Nothing)
+invariant-loop-a l = (l.a ≤ l.last + 1) × (walked l.m.f l.m.n l.first (l.a - l.first) ≡ Nothing)

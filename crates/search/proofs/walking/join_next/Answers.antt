@@ -2,12 +2,11 @@
 -- Assumes nothing.
 use native.Mathlib.Omega.{arith}
 use lib.Pow.{pow_mono}
-use Rattle.elements.specs.Held.{of_field}
 use Rattle.search.proofs.walking.join_next.Goals as goal
 
 pub join_decided-requires : goal.join_decided-requires
 join_decided-requires c =
-    let s = of_field c.args.tables.now.reference in
+    let s = c.args.tables.now.modulus.of_field in
     record {
       of_element = record { of_field = s; below = c.requires.element };
       leads = c.requires.leads;

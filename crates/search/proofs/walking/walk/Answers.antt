@@ -1,11 +1,10 @@
 -- `search::walking::walk` meets its contract: up to the first normal leader nothing is added, and on from it the walk joins.
 -- Assumes nothing.
-use mathlib.Core.Path.{◌≡◌, refl, ap, ◌∙◌}
+use mathlib.Core.Path.{◌≡◌, refl, sym, ap, ◌∙◌}
+use mathlib.Core.Bool.{true}
 use Prim.Native.Nat.{◌+◌}
 use native.Mathlib.Omega.{arith}
-use Rattle.elements.specs.declared.squares.Squares.{Squares}
 use Rattle.elements.specs.declared.modulus.Modulus.{Modulus}
-use Rattle.elements.specs.Held.{f_of, n_of}
 use Rattle.search.specs.Search.{normal_leader}
 use Rattle.search.specs.Joining.{as_answer}
 use Rattle.search.specs.Walks.{leader_is_normal}
@@ -14,32 +13,44 @@ use Rattle.search.proofs.Begun.{begun_nothing, begun_found}
 use Rattle.search.proofs.walking.walk.Goals.{After-new-m, After-new-tables}
 use Rattle.search.proofs.walking.walk.Goals as goal
 
--- the squares are those of f
-m_f : (t : After-new-m) → t.new-m.result.squares.now.f ≡ t.args.ring.f
-m_f t = ap (λ (s : Squares). s.f) t.new-m.ensures ∙ t.new-squares.ensures.0
+-- the modulus is f
+m_f : (t : After-new-m) → t.new-m.result.f ≡ t.args.ring.f
+m_f t = t.new-m.ensures.0 ∙ t.new-squares.ensures.0
 
-m_n : (t : After-new-m) → t.new-m.result.squares.now.n ≡ t.args.ring.n
-m_n t = ap (λ (s : Squares). s.n) t.new-m.ensures ∙ t.new-squares.ensures.1
+m_n : (t : After-new-m) → t.new-m.result.n ≡ t.args.ring.n
+m_n t = t.new-m.ensures.1 ∙ t.new-squares.ensures.1
 
 pub first_normal-requires : goal.first_normal-requires
 first_normal-requires c =
     let part : PartOf c.args.ring.n c.args.first c.args.last = record { within = omega (arith, c.requires.0.ordered); elements = c.requires.0.elements } in
-    (rw (m_n (goal.at.first_normal-requires c).After-new-m) part)
+    record {
+      of_squares = (sym c.new-m.ensures.0, sym c.new-m.ensures.1);
+      part = rw (m_n (goal.at.first_normal-requires c).After-new-m) part;
+    }
 
 pub new-reference-requires : goal.new-reference-requires
 new-reference-requires c =
-    let s = c.new-m.result.squares.now in
-    let first = c.in-Some.ensures in (
-      rw (m_n (goal.at.new-reference-requires c).After-new-m) (omega (arith, first.0, c.requires.0.elements)),
-      leader_is_normal s.f s.n c.in-Some.b (first.1.passes first.0),
+    let m = (goal.at.new-reference-requires c).After-new-m in
+    let first = c.in-Some.ensures in
+    let passes : normal_leader c.args.ring.f c.args.ring.n c.in-Some.b ≡ true = rw (m_f m, m_n m) at first.1.passes first.0 in (
+      record { of_field = c.requires.0.of_field; below = omega (arith, first.0, c.requires.0.elements) },
+      leader_is_normal c.args.ring.f c.args.ring.n c.in-Some.b passes,
     )
 
--- and so are the tables
-tables_f : (t : After-new-tables) (m : After-new-m) → t.new-m.result ≡ m.new-m.result → f_of t.new-tables.result.reference ≡ m.args.ring.f
-tables_f t m e = ap (λ (m : Modulus). m.squares.now.f) (t.new-tables.ensures ∙ t.new-reference.ensures ∙ e) ∙ m_f m
+pub new-tables-requires : goal.new-tables-requires
+new-tables-requires c =
+    let m = (goal.at.new-tables-requires c).After-new-m in
+    record {
+      of_squares = (sym c.new-m.ensures.0, sym c.new-m.ensures.1);
+      of_reference = (c.new-reference.ensures.0 ∙ sym (m_f m), c.new-reference.ensures.1 ∙ sym (m_n m));
+    }
 
-tables_n : (t : After-new-tables) (m : After-new-m) → t.new-m.result ≡ m.new-m.result → n_of t.new-tables.result.reference ≡ m.args.ring.n
-tables_n t m e = ap (λ (m : Modulus). m.squares.now.n) (t.new-tables.ensures ∙ t.new-reference.ensures ∙ e) ∙ m_n m
+-- and so are the tables
+tables_f : (t : After-new-tables) (m : After-new-m) → t.new-m.result ≡ m.new-m.result → t.new-tables.result.modulus.f ≡ m.args.ring.f
+tables_f t m e = ap (λ (m : Modulus). m.f) (t.new-tables.ensures.1 ∙ e) ∙ m_f m
+
+tables_n : (t : After-new-tables) (m : After-new-m) → t.new-m.result ≡ m.new-m.result → t.new-tables.result.modulus.n ≡ m.args.ring.n
+tables_n t m e = ap (λ (m : Modulus). m.n) (t.new-tables.ensures.1 ∙ e) ∙ m_n m
 
 pub walk_on-requires : goal.walk_on-requires
 walk_on-requires c =

@@ -4,7 +4,6 @@ use mathlib.Core.Bool.{false}
 use Prim.Native.Nat.{ℕ, ◌+◌, ◌^◌, ◌<◌}
 use native.Mathlib.Omega.{arith}
 use Rattle.elements.specs.Fields.{FieldOf}
-use Rattle.elements.specs.Held.{f_of, n_of, of_field}
 use Rattle.search.specs.Search.{joined, candidate_of}
 use Rattle.search.specs.Joined.{joined-nothing}
 use Rattle.search.specs.Joining.{as_answer}
@@ -17,15 +16,19 @@ use Rattle.search.proofs.walking.walk_on.Goals as goal
 
 pub loop-y-init : goal.loop-y-init
 loop-y-init c =
-    let r = c.args.tables.now.reference in
-    (c.requires.0.within, c.requires.1, next_start (f_of r) (n_of r) c.args.next (as_answer c.args.held))
+    let m = c.args.tables.now.modulus in
+    (c.requires.0.within, c.requires.1, next_start m.f m.n c.args.next (as_answer c.args.held))
+
+pub is_trace_leader-requires : goal.is_trace_leader-requires
+is_trace_leader-requires c =
+    record { of_squares = c.args.tables.now.of_squares; element = omega (arith, c.requires.0.elements, c.loop-y-test.true) }
 
 pub join_next-found-requires : goal.join_next-found-requires
 join_next-found-requires c =
-    let r = c.args.tables.now.reference in
+    let m = c.args.tables.now.modulus in
     record {
       element = omega (arith, c.requires.0.elements, c.loop-y-test.true);
-      leads = trace-leader-leads (f_of r) (n_of r) c.loop-y.y (sym c.is_trace_leader.ensures ∙ c.if-is_trace_leader.true);
+      leads = trace-leader-leads m.f m.n c.loop-y.y (sym c.is_trace_leader.ensures ∙ c.if-is_trace_leader.true);
       counts = c.loop-y.invariant.1;
     }
 
@@ -36,36 +39,36 @@ skipped f n y s below e x z ez =
 
 pub loop-y-preserved : goal.loop-y-preserved
 loop-y-preserved c =
-    let r = c.args.tables.now.reference in
+    let m = c.args.tables.now.modulus in
     let l = c.loop-y in
     let found = as_answer c.if-is_trace_leader.found in
-    let below : l.y < 2 ^ n_of r = omega (arith, c.requires.0.elements, c.loop-y-test.true) in
-    let more : found ≡ joined (as_answer l.found) (candidate_of (f_of r) (n_of r) l.y) =
+    let below : l.y < 2 ^ m.n = omega (arith, c.requires.0.elements, c.loop-y-test.true) in
+    let more : found ≡ joined (as_answer l.found) (candidate_of m.f m.n l.y) =
     elim c.if-is_trace_leader.branch [
       | then-is_trace_leader w ↦ ap as_answer w.found-is ∙ w.join_next-found.ensures
-      | else-is_trace_leader w ↦ skipped (f_of r) (n_of r) l.y (of_field r) below (sym c.is_trace_leader.ensures ∙ w.if-is_trace_leader.false) (as_answer l.found) found (ap as_answer w.found-is)
+      | else-is_trace_leader w ↦ skipped m.f m.n l.y m.of_field below (sym c.is_trace_leader.ensures ∙ w.if-is_trace_leader.false) (as_answer l.found) found (ap as_answer w.found-is)
     ] in (
       omega (arith, c.loop-y-test.true),
-      next-count (f_of r) (n_of r) c.args.next l.y l.auto.y (as_answer c.args.held) (as_answer l.found) found more l.invariant.1,
-      next_turn (f_of r) (n_of r) c.args.next l.y l.auto.y (as_answer c.args.held) (as_answer l.found) found more l.invariant.2,
+      next-count m.f m.n c.args.next l.y l.auto.y (as_answer c.args.held) (as_answer l.found) found more l.invariant.1,
+      next_turn m.f m.n c.args.next l.y l.auto.y (as_answer c.args.held) (as_answer l.found) found more l.invariant.2,
     )
 
 pub returns : goal.returns
 returns c =
-    let r = c.args.tables.now.reference in
+    let m = c.args.tables.now.modulus in
     let l = c.loop-y in
-    next-done (f_of r) (n_of r) c.args.next c.args.last l.y (as_answer c.args.held) (as_answer l.found) l.invariant.0 c.loop-y-test.false l.invariant.2
+    next-done m.f m.n c.args.next c.args.last l.y (as_answer c.args.held) (as_answer l.found) l.invariant.0 c.loop-y-test.false l.invariant.2
 
 pub returns-after-is_trace_leader : goal.returns-after-is_trace_leader
 returns-after-is_trace_leader c =
-    let r = c.args.tables.now.reference in
+    let m = c.args.tables.now.modulus in
     let l = c.loop-y in
     let found = as_answer c.if-is_trace_leader.found in
-    let below : l.y < 2 ^ n_of r = omega (arith, c.requires.0.elements, c.loop-y-test.true) in
-    let more : found ≡ joined (as_answer l.found) (candidate_of (f_of r) (n_of r) l.y) =
+    let below : l.y < 2 ^ m.n = omega (arith, c.requires.0.elements, c.loop-y-test.true) in
+    let more : found ≡ joined (as_answer l.found) (candidate_of m.f m.n l.y) =
     elim c.if-is_trace_leader.branch [
       | then-is_trace_leader w ↦ ap as_answer w.found-is ∙ w.join_next-found.ensures
-      | else-is_trace_leader w ↦ skipped (f_of r) (n_of r) l.y (of_field r) below (sym c.is_trace_leader.ensures ∙ w.if-is_trace_leader.false) (as_answer l.found) found (ap as_answer w.found-is)
+      | else-is_trace_leader w ↦ skipped m.f m.n l.y m.of_field below (sym c.is_trace_leader.ensures ∙ w.if-is_trace_leader.false) (as_answer l.found) found (ap as_answer w.found-is)
     ] in
-    next-done (f_of r) (n_of r) c.args.next c.args.last (l.y + 1) (as_answer c.args.held) found (omega (arith, c.loop-y-test.true)) (omega arith)
-    (next_turn (f_of r) (n_of r) c.args.next l.y l.auto.y (as_answer c.args.held) (as_answer l.found) found more l.invariant.2)
+    next-done m.f m.n c.args.next c.args.last (l.y + 1) (as_answer c.args.held) found (omega (arith, c.loop-y-test.true)) (omega arith)
+    (next_turn m.f m.n c.args.next l.y l.auto.y (as_answer c.args.held) (as_answer l.found) found more l.invariant.2)

@@ -2,7 +2,6 @@
 -- most y. Assumes nothing.
 use mathlib.Core.Path.{◌≡◌}
 use Prim.Native.Nat.{◌+◌, ◌-◌, ◌≤◌}
-use Rattle.elements.specs.Held.{f_of, n_of}
 use Rattle.search.specs.Search.{joined, walked, count_of}
 use Rattle.search.specs.Joining.{as_answer}
 use Rattle.search.proofs.walking.walk_on.Given as goal
@@ -10,4 +9,4 @@ use Rattle.search.proofs.walking.walk_on.Given as goal
 abbrev pub invariant-loop-y : goal.invariant-loop-y
 invariant-loop-y l =
     (l.y ≤ l.last + 1) × (count_of (as_answer l.found) ≤ l.y)
-    × (as_answer l.found ≡ joined (as_answer l.initial.found) (walked (f_of l.tables.reference) (n_of l.tables.reference) l.next (l.y - l.next)))
+    × (as_answer l.found ≡ joined (as_answer l.initial.found) (walked l.m.f l.m.n l.next (l.y - l.next)))

@@ -8,6 +8,6 @@ use Rattle.elements.proofs.modulus.Modulus.has_trace.Goals as goal
 
 pub returns : goal.returns
 returns c =
-    let m = c.args.self.now in
+    let m = c.args.self in
     ap (λ (x : ℕ). eqb x 1)
-    (ap (λ (x : ℕ). ones (bit_and c.args.a x) % 2) m.of_mask ∙ mask_parity m.squares.now.f m.squares.now.n m.squares.now.of_field c.args.a c.requires)
+    (ap (λ (x : ℕ). ones (bit_and c.args.a x) % 2) m.of_mask ∙ mask_parity m.f m.n m.of_field c.args.a c.requires)

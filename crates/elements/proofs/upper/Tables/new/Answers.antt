@@ -1,8 +1,11 @@
--- `elements::upper::Tables::new` meets its contract: the tables are those of the rows.
+-- `elements::upper::Tables::new` meets its contract: the reference's sums are of the same field.
 -- Assumes nothing.
-use Rattle.std.proofs.Common.{ap, ◌∙◌}
-use Rattle.rows.specs.ByteSums.{bytes, byte_sums}
 use Rattle.elements.proofs.upper.Tables.new.Goals as goal
 
 pub invariant_of-result : goal.invariant_of-result
-invariant_of-result c = record { of_uppers = c.byte_sums.ensures ∙ ap (byte_sums bytes) c.upper_rows.ensures }
+invariant_of-result c =
+    record {
+      of_squares = c.requires.of_squares;
+      of_reference = c.requires.of_reference;
+      of_uppers = rw (c.requires.of_reference.0, c.requires.of_reference.1) at c.upper_sums-uppers.ensures;
+    }

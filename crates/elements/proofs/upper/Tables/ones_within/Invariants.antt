@@ -7,4 +7,4 @@ use Rattle.elements.proofs.upper.Tables.ones_within.Given as goal
 
 abbrev pub invariant-loop-i : goal.invariant-loop-i
 invariant-loop-i l =
-    (l.count ≤ 128 * l.i + 1) × (l.c ≡ squared l.squares.now.f l.squares.now.n l.i l.y) × (l.count ≡ ones_to l.squares.now.f l.squares.now.n l.y l.i)
+    (l.count ≤ 128 * l.i + 1) × (l.c ≡ squared l.m.f l.m.n l.i l.y) × (l.count ≡ ones_to l.m.f l.m.n l.y l.i)
