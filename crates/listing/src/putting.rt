@@ -44,7 +44,8 @@ impl Lent<'_> {
     }
 }
 
-// The bytes, put at a place of the text; the answer is the place after them.
+// The bytes, put at a place of the text; the answer is the place after them. This, `put_number` and `put_cause` keep the text and the place
+// as arguments, for the programs that call them so and for what they promise of both.
 pub fn put_bytes(text: &mut [u8], at: usize, bytes: &[u8]) -> usize
     requires { at + length bytes.now ≤ length text.old }
     ensures { Put text.old at bytes.now text.new result }

@@ -12,7 +12,7 @@ use sheet::{RECORD, read};
 // A text that every listing fits into: as many rows as a sheet can have, and the last line. The specs have it as `listing_room`.
 pub const LISTING_ROOM: usize = ROW_ROOM * LIMIT + LAST_ROOM;
 
-// The listing of the sheet, at the text's front; the answer is its length. The rest of the text stays as it came. The clause
+// The listing of the sheet, at the text's front; the answer is its length, as the clause size promises. The rest of the text stays as it came. The clause
 // counted follows from the two before it; a caller that takes the front of the text asks for it.
 pub fn listing(sheet: &[u8], text: &mut [u8; LISTING_ROOM]) -> usize
     ensures size { result ≡ length (listing_of sheet.now) }
