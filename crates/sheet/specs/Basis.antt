@@ -1,7 +1,7 @@
 -- Laws that building and reading share: what building a basis answers, and a basis written as a sheet.
 -- Assumes nothing.
 use Rattle.std.specs.Prelude.{◌≡◌, refl, Ok, Err, List, ◌∷◌, ℕ, zero, suc, ◌-◌, ◌*◌, ◌%◌, ◌^◌, ◌≤◌, take}
-use Rattle.std.proofs.Common.{sym, ap, ◌∙◌, zero-add, one-mul, arith, shl_exact}
+use Rattle.std.proofs.Common.{ap, ◌∙◌, zero-add, one-mul, arith, shl_exact}
 use Rattle.gf2.specs.Limit.{limit}
 use Rattle.refusals.specs.Verdicts.{Rule, refuse, first_of}
 use Rattle.refusals.specs.Orders.{first-applies, first_passes}

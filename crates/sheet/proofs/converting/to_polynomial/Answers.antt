@@ -9,7 +9,7 @@ use Rattle.sheet.specs.Record.{record_count}
 use Rattle.sheet.specs.Orders.{shape_order, polynomial_order}
 use Rattle.sheet.specs.Answers.{polynomial_answer, polynomial_report}
 use Rattle.sheet.proofs.converting.to_polynomial.Goals as goal
-use Rattle.std.specs.Prelude.{Ok, Err}
+use Rattle.std.specs.Prelude.{Err}
 use Rattle.std.proofs.Common.{rules, ◌≡◌, ◌∙◌}
 
 pub returns : goal.returns

@@ -9,7 +9,7 @@ use Rattle.sheet.specs.Record.{record_count}
 use Rattle.sheet.specs.Orders.{shape_order, value_order, zero_rule, quotient_order}
 use Rattle.sheet.specs.Answers.{quotient_answer, quotient_report}
 use Rattle.sheet.proofs.dividing.quotient.Goals as goal
-use Rattle.std.specs.Prelude.{Ok, Err}
+use Rattle.std.specs.Prelude.{Err}
 use Rattle.std.proofs.Common.{rules, ◌≡◌, ◌∙◌}
 
 pub returns : goal.returns

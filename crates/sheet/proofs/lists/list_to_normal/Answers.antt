@@ -7,7 +7,7 @@ use Rattle.refusals.specs.Answered.{answer-refused, left-refused, checked_promis
 use Rattle.sheet.specs.Orders.{shape_order, list_rule, normal_list_order}
 use Rattle.sheet.specs.Answers.{normal_list_answer, normal_list_report, normal_list}
 use Rattle.sheet.proofs.lists.list_to_normal.Goals as goal
-use Rattle.std.specs.Prelude.{Ok, Err}
+use Rattle.std.specs.Prelude.{Err}
 use Rattle.std.proofs.Common.{rules, ◌≡◌, ◌∙◌}
 use Rattle.refusals.specs.Answers.{passed}
 

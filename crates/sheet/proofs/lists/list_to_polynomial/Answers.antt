@@ -8,7 +8,7 @@ use Rattle.sheet.specs.Record.{record_count}
 use Rattle.sheet.specs.Orders.{shape_order, list_rule, list_order, value_rules, polynomial_list_order}
 use Rattle.sheet.specs.Answers.{polynomial_list_answer, polynomial_list_report, polynomial_list}
 use Rattle.sheet.proofs.lists.list_to_polynomial.Goals as goal
-use Rattle.std.specs.Prelude.{Ok, Err}
+use Rattle.std.specs.Prelude.{Err}
 use Rattle.std.proofs.Common.{rules, ◌≡◌, ◌∙◌}
 use Rattle.refusals.specs.Answers.{passed}
 

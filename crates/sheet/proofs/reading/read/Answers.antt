@@ -9,7 +9,7 @@ use Rattle.sheet.specs.Answers.{summary_in, issued_of, read_answer, read_report}
 use Rattle.sheet.specs.Answered.{issued_promised}
 use Rattle.sheet.proofs.Clear.{shaped-clear}
 use Rattle.sheet.proofs.reading.read.Goals as goal
-use Rattle.std.specs.Prelude.{Ok, Err}
+use Rattle.std.specs.Prelude.{Err}
 use Rattle.std.proofs.Common.{rules, ◌≡◌, ◌∙◌}
 
 pub returns : goal.returns

@@ -4,7 +4,7 @@ use Rattle.refusals.specs.Verdicts.{first_of}
 use Rattle.refusals.specs.Answered.{judged_clear, judged_verdict}
 use Rattle.sheet.specs.Orders.{shape_order}
 use Rattle.sheet.proofs.Clear.{clear-shaped}
-use Rattle.std.proofs.Common.{rules, ◌≡◌, ◌∙◌}
+use Rattle.std.proofs.Common.{rules, ◌≡◌}
 use Rattle.std.specs.Prelude.{Err}
 use Rattle.sheet.proofs.shaped.Sheet.judged.Goals as goal
 
