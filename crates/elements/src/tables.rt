@@ -31,7 +31,7 @@ impl<'a> Tables<'a> {
     {
         let wide = ys.wide_product(c);
         rs.turned_product(
-            self.reference.coordinates(wide.low) ^ sum_by_bytes(&self.uppers, wide.high),
+            self.reference.coordinates(wide.low) ^ sum_by_bytes(self.uppers, wide.high),
         )
     }
 

@@ -16,10 +16,10 @@ pub struct Tables<'a> {
     pub squares: &'a Squares,
     pub modulus: Modulus,
     pub reference: &'a Reference,
-    pub uppers: [u64; BYTE_SUMS],
+    pub uppers: &'a [u64; BYTE_SUMS],
     pub ghost of_squares: { (squares.now.f ≡ modulus.f) × (squares.now.n ≡ modulus.n) },
     pub ghost of_reference: { (reference.now.f ≡ modulus.f) × (reference.now.n ≡ modulus.n) },
-    pub ghost of_uppers: { uppers ≡ byte_sums bytes (upper_rows modulus.f modulus.n reference.now.sums) },
+    pub ghost of_uppers: { uppers.now ≡ byte_sums bytes (upper_rows modulus.f modulus.n reference.now.sums) },
 }
 
 // The coordinates of x^n to x^(2n-1).
@@ -38,24 +38,27 @@ fn upper_rows(reference: &Reference) -> [u64; LIMIT]
 }
 
 impl Reference {
-    // The byte sums of these rows.
-    pub fn upper_sums(&self) -> [u64; BYTE_SUMS]
-        ensures { result ≡ byte_sums bytes (upper_rows self.now.f self.now.n self.now.sums) }
+    // The byte sums of these rows, written into what is lent, so that the stack has them once.
+    pub fn upper_sums(&self, uppers: &mut [u64; BYTE_SUMS])
+        ensures { uppers.new ≡ byte_sums bytes (upper_rows self.now.f self.now.n self.now.sums) }
     {
-        let mut uppers: [u64; BYTE_SUMS] = [0; BYTE_SUMS];
-        byte_sums(upper_rows(self), &mut uppers);
-        uppers
+        byte_sums(upper_rows(self), uppers);
     }
 }
 
 impl<'a> Tables<'a> {
-    // The tables that these are parts of.
-    pub fn new(squares: &'a Squares, modulus: Modulus, reference: &'a Reference) -> Self
+    // The tables that these are parts of. The large ones are lent, for the same reason.
+    pub fn new(
+        squares: &'a Squares,
+        modulus: Modulus,
+        reference: &'a Reference,
+        uppers: &'a [u64; BYTE_SUMS],
+    ) -> Self
         requires of_squares { (squares.now.f ≡ modulus.f) × (squares.now.n ≡ modulus.n) }
         requires of_reference { (reference.now.f ≡ modulus.f) × (reference.now.n ≡ modulus.n) }
+        requires of_uppers { uppers.now ≡ byte_sums bytes (upper_rows modulus.f modulus.n reference.now.sums) }
         ensures { (result.squares.now ≡ squares.now) × (result.modulus ≡ modulus) × (result.reference.now ≡ reference.now) }
     {
-        let uppers = reference.upper_sums();
         Tables {
             squares,
             modulus,

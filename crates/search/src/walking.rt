@@ -13,6 +13,7 @@ use elements::{Modulus, Reference, Squares, Tables};
 use field::Ring;
 use gf2::Spread;
 use normal::build_basis;
+use rows::BYTE_SUMS;
 
 // Whether a is a leader of trace 1. A normal element has trace 1, so that no other can be a normal leader.
 fn is_trace_leader(squares: &Squares, m: Modulus, a: u64) -> bool
@@ -88,7 +89,9 @@ pub fn walk(spread: &Spread, ring: Ring, held: Option<Best>, first: u64, last: u
         None => held,
         Some(b) => {
             let reference = Reference::new(spread, ring.f, ring.n, b);
-            let tables = Tables::new(&squares, m, &reference);
+            let mut uppers: [u64; BYTE_SUMS] = [0; BYTE_SUMS];
+            reference.upper_sums(&mut uppers);
+            let tables = Tables::new(&squares, m, &reference, &uppers);
             walk_on(&tables, held, b, last)
         }
     }

@@ -43,6 +43,7 @@ new-tables-requires c =
     record {
       of_squares = (sym c.new-m.ensures.0, sym c.new-m.ensures.1);
       of_reference = (c.new-reference.ensures.0 ∙ sym (m_f m), c.new-reference.ensures.1 ∙ sym (m_n m));
+      of_uppers = rw (c.new-reference.ensures.0 ∙ sym (m_f m), c.new-reference.ensures.1 ∙ sym (m_n m)) at c.upper_sums.ensures;
     }
 
 -- and so are the tables

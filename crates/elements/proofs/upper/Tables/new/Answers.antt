@@ -7,5 +7,5 @@ invariant_of-result c =
     record {
       of_squares = c.requires.of_squares;
       of_reference = c.requires.of_reference;
-      of_uppers = rw (c.requires.of_reference.0, c.requires.of_reference.1) at c.upper_sums-uppers.ensures;
+      of_uppers = c.requires.of_uppers;
     }

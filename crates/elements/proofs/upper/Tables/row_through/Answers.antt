@@ -27,7 +27,7 @@ coordinates c =
     let unreduced : Unreduced t.modulus.f t.modulus.n c.args.ys.now.a c.args.c wide.low wide.high =
     rw (c.requires.ys_are.0, c.requires.ys_are.1) at c.wide_product-wide.ensures c.requires.element in
     ap₂ bit_xor c.coordinates.ensures c.sum_by_bytes.ensures
-    ∙ wide-coordinates t.modulus.f t.modulus.n t.reference.now.sums (reference_of t) t.uppers t.of_uppers c.args.ys.now.a c.args.c wide.low wide.high unreduced
+    ∙ wide-coordinates t.modulus.f t.modulus.n t.reference.now.sums (reference_of t) t.uppers.now t.of_uppers c.args.ys.now.a c.args.c wide.low wide.high unreduced
 
 pub returns : goal.returns
 returns c =
