@@ -1,4 +1,4 @@
--- The field that f defines: definitions in `Field`, `Accepted`, `Refusals`, `Judged`, `Answers`, laws in the rest.
+-- The field that f defines: definitions in `Field`, `Accepted`, `Refusals`, `Answers`, both in `Judged`, laws in the rest.
 pub mod Field
 pub mod Accepted
 pub mod Refusals

@@ -1,8 +1,9 @@
 // What the calls answer: Ok with a value, or with none, or the refusal. A refusal carries its row of the table and a place, and no value
 // (document 01, "Refusal numbers").
-ghost use Rattle.std.specs.Prelude.{◌≡◌};
+ghost use Rattle.std.specs.Prelude.{◌≡◌, Some};
 ghost use Rattle.refusals.specs.Verdicts.{refuse};
 ghost use Rattle.refusals.specs.Answers.{refusal_at, checked_of};
+ghost use Rattle.refusals.specs.Meanings.{refusal_text};
 
 use super::fault::Fault;
 use std::error::Error;
@@ -17,6 +18,8 @@ pub struct Refusal {
 
 // The number, the place and the meaning.
 impl fmt::Display for Refusal {
+    ghost output = { λ refusal. Some (refusal_text refusal) };
+
     fn fmt<W: fmt::Write>(&self, f: &mut fmt::Formatter<W>) -> fmt::Result {
         write!(f, "{} {}: {}", self.fault.number(), self.place, self.fault)
     }

@@ -1,6 +1,7 @@
 // The rows of the refusal table, each with its number.
-ghost use Rattle.std.specs.Prelude.{◌≡◌};
+ghost use Rattle.std.specs.Prelude.{◌≡◌, Some};
 ghost use Rattle.refusals.specs.Verdicts.{fault_number};
+ghost use Rattle.refusals.specs.Meanings.{meaning};
 
 use std::fmt;
 
@@ -63,6 +64,8 @@ impl Fault {
 
 // The meaning of the row in words.
 impl fmt::Display for Fault {
+    ghost output = { λ fault. Some (meaning fault) };
+
     fn fmt<W: fmt::Write>(&self, f: &mut fmt::Formatter<W>) -> fmt::Result {
         f.write_str(match self {
             Fault::DegreeOutside => "the degree of f is not 2 to 46",
