@@ -4,9 +4,11 @@
 --
 -- What of this a wrong definition breaks, and what rests on that, stands in `proofs/ListsLaws.antt`.
 -- Assumes nothing.
-use Rattle.std.specs.Prelude.{◌≡◌, refl, Bool, true, false, cond, List, [], ◌∷◌, ◌++◌, map, ℕ, zero, suc, ◌+◌, ◌≤◌, ◌<◌, length, get_or, set, take, drop}
-use Rattle.std.proofs.Common.{sym, ap, ap₂, ◌∙◌, append-nil, le_of_suc-le-suc, not-suc-le-zero, add-one, arith, drop_of_length-le, length-append, length-drop, drop-cons, take-suc, take_all, lt-ltb, le-ltb, eq-eqb, ne_eqb}
+use Rattle.std.specs.Prelude.{◌≡◌, refl, Bool, true, false, not, cond, ltb, List, [], ◌∷◌, ◌++◌, map, ℕ, zero, suc, ◌+◌, ◌≤◌, ◌<◌, length, get_or, set, take, drop, position, Option, MatchOption}
+use Rattle.std.specs.List.{position_or_len}
+use Rattle.std.proofs.Common.{sym, ap, ap₂, ◌∙◌, append-nil, le_of_suc-le-suc, not-suc-le-zero, add-one, arith, drop_of_length-le, length-append, length-drop, drop-cons, take-suc, take_all, lt-ltb, le-ltb, ltb-true, ltb-false, eq-eqb, ne_eqb}
 use Rattle.std.proofs.lemmas.List.{set_at, get_or_at}
+use Rattle.std.proofs.lemmas.List.Sums.{prefix_len-le-length}
 use Rattle.std.proofs.Math.Seq.{append_snoc}
 use Rattle.refusals.specs.Verdicts.{clear, refuse, first_of}
 use Rattle.refusals.specs.Orders.{first-applies, first_passes, first-none, first-clear}
@@ -33,6 +35,31 @@ module _ (n : ℕ) (values : List ℕ) (i : ℕ) where
   pub large_none : length values ≤ i → first_large_lem n i (drop i values) ≡ i
   unfolding first_large_lem
   large_none h = rw (drop_of_length-le values {i = i} h)
+
+-- ---- that index as std's `position` gives it
+
+large_counted : (n i : ℕ) (values : List ℕ) → first_large_lem n i values ≡ i + position_or_len (too_large_lem n) values
+unfolding first_large_lem
+large_counted n i [] = omega arith
+large_counted n i (v ∷ vs) = go (too_large_lem n v) refl (large_counted n (i + 1) vs)
+  where
+    go : (b : Bool) → too_large_lem n v ≡ b → first_large_lem n (i + 1) vs ≡ i + 1 + position_or_len (too_large_lem n) vs
+        → first_large_lem n i (v ∷ vs) ≡ i + position_or_len (too_large_lem n) (v ∷ vs)
+    go true e ih = rw e (omega arith)
+    go false e ih = rw e (omega arith)
+
+-- it is the place that `position` finds, and the length where that finds none
+pub large_position : (n : ℕ) (values : List ℕ) {found : Option ℕ} → found ≡ position (too_large_lem n) values
+    → MatchOption found (first_large_lem n 0 values ≡ length values) (λ i. (first_large_lem n 0 values ≡ i) × (i < length values))
+large_position n values is = rw is (go (ltb (position_or_len (too_large_lem n) values) (length values)) refl)
+  where
+    go : (b : Bool) → ltb (position_or_len (too_large_lem n) values) (length values) ≡ b
+        → MatchOption (position (too_large_lem n) values) (first_large_lem n 0 values ≡ length values) (λ i. (first_large_lem n 0 values ≡ i) × (i < length values))
+    go true e = rw e (omega (arith, large_counted n 0 values), ltb-true (position_or_len (too_large_lem n) values) (length values) e)
+    go false e =
+        let l = prefix_len-le-length (λ v. not (too_large_lem n v)) values in
+        let h = ltb-false (position_or_len (too_large_lem n) values) (length values) e in
+        rw e (omega (arith, large_counted n 0 values))
 
 -- ---- condition 4 by that index
 
