@@ -34,6 +34,17 @@ fn first_too_large(n: u32, values: &[u64]) -> Option<usize>
     values.iter().position(|value| too_large(n, *value))
 }
 
+// The list `from`, copied into the list `into`, where it is then converted. A `for` becomes the C library's memcpy; the slices' own method
+// would have the archive ask its callers for memmove too.
+fn copy(from: &[u64], into: &mut [u64])
+    requires { length from.now ≡ length into.old }
+    ensures { into.new ≡ from.now }
+{
+    for i in 0..from.len() {
+        into[i] = from[i];
+    }
+}
+
 // Every value converted by the rows, where it stands.
 fn convert_all(rows: &[u64; LIMIT], list: &mut [u64])
     requires { Small limit list.old }
@@ -107,7 +118,7 @@ impl<'a> Sheet<'a> {
         ensures { into.new ≡ map (to_polynomial self.now.bytes.now) from.now }
     {
         let rows = self.rows(CONJUGATE_AT);
-        into.copy_from_slice(from);
+        copy(from, into);
         convert_values(rows, into);
     }
 
@@ -118,7 +129,7 @@ impl<'a> Sheet<'a> {
         ensures { into.new ≡ map (to_normal self.now.bytes.now) from.now }
     {
         let rows = self.rows(INVERSE_AT);
-        into.copy_from_slice(from);
+        copy(from, into);
         convert_unreduced(rows, self.ring(), into);
     }
 

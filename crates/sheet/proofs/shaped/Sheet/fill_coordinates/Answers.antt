@@ -18,5 +18,5 @@ named-words sheet words {f} {loaded} ef er ec =
 
 pub returns : goal.returns
 returns c =
-    c.convert_unreduced.ensures ∙ ap (λ (n : ℕ). map (in_normal c.ring.result.f n c.rows-rows.result) c.copy_from_slice.new.self) c.ring.ensures.1
-    ∙ named-words c.args.self.now.bytes.now c.args.from.now c.ring.ensures.0 c.rows-rows.ensures c.copy_from_slice.ensures.after
+    c.convert_unreduced.ensures ∙ ap (λ (n : ℕ). map (in_normal c.ring.result.f n c.rows-rows.result) c.copy.new.into) c.ring.ensures.1
+    ∙ named-words c.args.self.now.bytes.now c.args.from.now c.ring.ensures.0 c.rows-rows.ensures c.copy.ensures

@@ -1,6 +1,6 @@
 -- `sheet::shaped::Sheet::fill_polynomials` meets its contract: the rows that were loaded convert as the sheet's own.
 -- Assumes nothing.
-use mathlib.Core.Path.{◌≡◌, sym, ap, ◌∙◌}
+use mathlib.Core.Path.{◌≡◌, ap, ◌∙◌}
 use mathlib.Core.List.{List, map}
 use Prim.Native.Nat.{ℕ, ◌^◌, ◌<◌}
 use native.Mathlib.Omega.{arith}
@@ -27,13 +27,13 @@ copied-small e small = rw e small
 pub rows-rows-requires : goal.rows-rows-requires
 rows-rows-requires c = omega arith
 
-pub copy_from_slice-requires : goal.copy_from_slice-requires
-copy_from_slice-requires c = sym c.requires.0
+pub copy-requires : goal.copy-requires
+copy-requires c = c.requires.0
 
 pub convert_values-requires : goal.convert_values-requires
 convert_values-requires c =
-    copied-small c.copy_from_slice.ensures.after (λ i l. omega (arith, c.requires.1 i l, pow_mono c.args.self.now.shaped.size.most))
+    copied-small c.copy.ensures (λ i l. omega (arith, c.requires.1 i l, pow_mono c.args.self.now.shaped.size.most))
 
 pub returns : goal.returns
 returns c =
-    c.convert_values.ensures ∙ ap (map (comb c.rows-rows.result)) c.copy_from_slice.ensures.after ∙ map-loaded c.args.self.now.bytes.now c.rows-rows.ensures c.args.from.now
+    c.convert_values.ensures ∙ ap (map (comb c.rows-rows.result)) c.copy.ensures ∙ map-loaded c.args.self.now.bytes.now c.rows-rows.ensures c.args.from.now
