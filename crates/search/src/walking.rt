@@ -32,7 +32,8 @@ fn is_normal(spread: &Spread, m: Modulus, a: u64) -> bool
     build_basis(spread, m.f, m.n, a).is_ok()
 }
 
-// The first normal leader from first to last, by the bases of leaders, if there is one.
+// The first normal leader from first to last, by the bases of leaders, if there is one. Most elements are passed over in a nanosecond or two, and
+// a range that has its end in it (`..=`) would take as long again for its own step: so both walks end before last + 1.
 fn first_normal(
     spread: &Spread,
     squares: &Squares,
@@ -44,7 +45,7 @@ fn first_normal(
     requires part { PartOf m.n first last }
     ensures { FirstOf m.f m.n (normal_leader m.f m.n) first last result }
 {
-    for a in first..=last {
+    for a in first..last + 1 {
         if is_trace_leader(squares, m, a) && is_normal(spread, m, a) {
             return Some(a);
         }
@@ -70,7 +71,7 @@ fn walk_on(tables: &Tables, held: Option<Best>, next: u64, last: u64) -> Option<
 {
     let m = tables.modulus;
     let mut found = held;
-    for y in next..=last {
+    for y in next..last + 1 {
         if is_trace_leader(tables.squares, m, y) {
             found = join_next(tables, found, y);
         }

@@ -26,7 +26,7 @@ is_normal-requires c = (omega (arith, c.requires.part.elements, c.loop-a-test.tr
 pub returns-then-is_normal : goal.returns-then-is_normal
 returns-then-is_normal c =
     let s = c.args.m in (
-      c.loop-a-test.true,
+      omega (arith, c.loop-a-test.true),
       record {
         since = c.loop-a.auto.a;
         upto = c.loop-a.invariant.0;
@@ -62,16 +62,3 @@ pub returns : goal.returns
 returns c =
     let s = c.args.m in
     past s.f s.n c.args.first c.args.last c.loop-a.a c.requires.part.within (omega (arith, c.loop-a.invariant.0, c.loop-a-test.false)) c.loop-a.invariant.1
-
-pub returns-else-is_trace_leader : goal.returns-else-is_trace_leader
-returns-else-is_trace_leader c =
-    let s = c.args.m in
-    let below : c.loop-a.a < 2 ^ s.n = omega (arith, c.requires.part.elements, c.loop-a-test.true) in
-    let fails : normal_leader s.f s.n c.loop-a.a ≡ false =
-    elim c.else-is_trace_leader.branch [
-      | else-is_trace_leader-via-then-is_trace_leader+else-is_normal w ↦ not_normal s.f s.n c.loop-a.a
-          (trace-leader-leads s.f s.n c.loop-a.a (sym c.is_trace_leader.ensures ∙ w.if-is_trace_leader.true)) (sym w.is_normal.ensures ∙ w.if-is_normal.false)
-      | else-is_trace_leader-via-else-is_trace_leader w ↦ not_trace-leader s.f s.n c.loop-a.a s.of_field below (sym c.is_trace_leader.ensures ∙ w.if-is_trace_leader.false)
-    ] in
-    past s.f s.n c.args.first c.args.last (c.loop-a.a + 1) c.requires.part.within (omega arith)
-    (first_turn s.f s.n c.args.first c.loop-a.a c.loop-a.auto.a c.loop-a.invariant.1 fails)

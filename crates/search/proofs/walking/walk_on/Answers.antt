@@ -1,7 +1,7 @@
 -- `search::walking::walk_on` meets its contract: the goals that the check leaves. Its loop is told in `Invariants.antt`. Assumes nothing.
 use mathlib.Core.Path.{◌≡◌, sym, ap, ◌∙◌}
 use mathlib.Core.Bool.{false}
-use Prim.Native.Nat.{ℕ, ◌+◌, ◌^◌, ◌<◌}
+use Prim.Native.Nat.{ℕ, ◌^◌, ◌<◌}
 use native.Mathlib.Omega.{arith}
 use Rattle.elements.specs.Fields.{FieldOf}
 use Rattle.search.specs.Search.{joined, candidate_of}
@@ -57,18 +57,4 @@ pub returns : goal.returns
 returns c =
     let m = c.args.tables.now.modulus in
     let l = c.loop-y in
-    next-done m.f m.n c.args.next c.args.last l.y (as_answer c.args.held) (as_answer l.found) l.invariant.0 c.loop-y-test.false l.invariant.2
-
-pub returns-after-is_trace_leader : goal.returns-after-is_trace_leader
-returns-after-is_trace_leader c =
-    let m = c.args.tables.now.modulus in
-    let l = c.loop-y in
-    let found = as_answer c.if-is_trace_leader.found in
-    let below : l.y < 2 ^ m.n = omega (arith, c.requires.0.elements, c.loop-y-test.true) in
-    let more : found ≡ joined (as_answer l.found) (candidate_of m.f m.n l.y) =
-    elim c.if-is_trace_leader.branch [
-      | then-is_trace_leader w ↦ ap as_answer w.found-is ∙ w.join_next-found.ensures
-      | else-is_trace_leader w ↦ skipped m.f m.n l.y m.of_field below (sym c.is_trace_leader.ensures ∙ w.if-is_trace_leader.false) (as_answer l.found) found (ap as_answer w.found-is)
-    ] in
-    next-done m.f m.n c.args.next c.args.last (l.y + 1) (as_answer c.args.held) found (omega (arith, c.loop-y-test.true)) (omega arith)
-    (next_turn m.f m.n c.args.next l.y l.auto.y (as_answer c.args.held) (as_answer l.found) found more l.invariant.2)
+    next-done m.f m.n c.args.next c.args.last l.y (as_answer c.args.held) (as_answer l.found) l.invariant.0 (omega (arith, c.loop-y-test.false)) l.invariant.2
