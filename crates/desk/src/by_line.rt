@@ -110,7 +110,7 @@ fn next_part<C: Conversion, H: Host, R: Read>(
     Ok(stop)
 }
 
-// What is said of the last line that was read, if it has no value.
+// What is said of the last line that was read, if it has no value. As with a word of the command line, each part is tried.
 fn say_line<F: Form, H: Host, R: Read>(
     host: &H,
     lines: &Lines<'_, H, R>,
@@ -118,14 +118,15 @@ fn say_line<F: Form, H: Host, R: Read>(
 ) -> fmt::Result {
     let mut errors = Errors(host);
     let count = lines.count();
-    let expected = F::EXPECTED;
-    write!(errors, "desk: line {count}: ")?;
-    if is_long {
-        errors.write_str("a word of more than 256 bytes")?;
+    let _ = errors.write_str("desk: line ");
+    let _ = write!(errors, "{count}");
+    let _ = errors.write_str(": ");
+    let _ = if is_long {
+        errors.write_str("a word of more than 256 bytes")
     } else {
-        errors.quoted(lines.word())?;
-    }
-    writeln!(errors, " {expected}")
+        errors.quoted(lines.word())
+    };
+    errors.write_str(F::EXPECTED)
 }
 
 // How the command ends when the values of the last list are written.

@@ -46,14 +46,15 @@ impl<H: Host> Errors<'_, H> {
         }
     }
 
+    // A part that cannot be written is left out, and the next one is still tried.
     fn bad_word(&mut self, i: usize, fault: Fault) -> fmt::Result {
-        self.write_str("desk: ")?;
-        self.word(i)?;
-        writeln!(self, " {fault}")
+        let _ = self.write_str("desk: ");
+        let _ = self.word(i);
+        write!(self, "{fault}")
     }
 }
 
-// What is wrong with a word of the command line.
+// What is wrong with a word of the command line: the rest of the line after the word.
 #[derive(Clone, Copy)]
 pub(crate) enum Fault {
     // It is no value; what is expected of one.
@@ -72,15 +73,14 @@ impl fmt::Display for Fault {
         match self {
             Fault::NoValue(expected) => write!(f, "{expected}"),
             Fault::WrongCount(usage) => {
-                write!(
-                    f,
-                    "was given too few or too many words; write: desk {usage}"
-                )
+                let _ = f.write_str(" was given too few or too many words; write: desk ");
+                let _ = f.write_str(usage);
+                f.write_str("\n")
             }
-            Fault::NoCommand => write!(f, "is no command; desk help lists them"),
-            Fault::NoOption => write!(f, "is no option; desk help lists them"),
-            Fault::NoFile => write!(f, "needs a file after it"),
-            Fault::Twice => write!(f, "was given twice"),
+            Fault::NoCommand => write!(f, " is no command; desk help lists them\n"),
+            Fault::NoOption => write!(f, " is no option; desk help lists them\n"),
+            Fault::NoFile => write!(f, " needs a file after it\n"),
+            Fault::Twice => write!(f, " was given twice\n"),
         }
     }
 }
@@ -91,8 +91,8 @@ pub(crate) fn bad_word<H: Host>(host: &H, i: usize, fault: Fault) -> Failure {
     Failure::BadWord
 }
 
-// The words cannot be used together.
-pub(crate) fn bad_words<H: Host>(host: &H, why: &str) -> Failure {
-    let _ = writeln!(Errors(host), "desk: {why}");
+// The words cannot be used together: the line that says why, written in one piece.
+pub(crate) fn bad_words<H: Host>(host: &H, line: &str) -> Failure {
+    let _ = Errors(host).write_str(line);
     Failure::BadWord
 }

@@ -99,8 +99,9 @@ fn convert_file<C: Conversion, H: Host>(
 fn convert_standard<C: Conversion, H: Host>(task: &mut Task<'_, H>) -> Result<(), Failure> {
     let host = task.host();
     if is_dash(host, task.place(1)) {
-        let why = "the sheet and the values cannot both be standard input; name a file for one";
-        return Err(bad_words(host, why));
+        let line =
+            "desk: the sheet and the values cannot both be standard input; name a file for one\n";
+        return Err(bad_words(host, line));
     }
     let mut input = host.reader();
     let mut lines = Lines::new(host, &mut input, b"standard input");
@@ -118,7 +119,7 @@ fn convert<C: Conversion, H: Host>(task: &mut Task<'_, H>) -> Result<(), Failure
         [_, _, value] if is_dash(host, *value) => convert_standard::<C, H>(task),
         words if words.len() > MOST_WORDS => Err(bad_words(
             host,
-            "more than 4096 values; give them by line, from standard input (-) or with --from FILE",
+            "desk: more than 4096 values; give them by line, from standard input (-) or with --from FILE\n",
         )),
         _ => convert_words::<C, H>(task),
     }

@@ -1,5 +1,5 @@
 // The words of the command line and the sheets and texts of files, as the calls take them.
-ghost use Rattle.std.specs.Prelude.{◌≡◌, length};
+ghost use Rattle.std.specs.Prelude.{◌≡◌, ◌≤◌, length, IfOk};
 
 use super::complaints::{Fault, bad_word};
 use gf2::LIMIT;
@@ -27,7 +27,7 @@ const EILSEQ: i32 = 84;
 
 // How a value is written.
 pub(crate) trait Form {
-    // What is said of a word that is no such value.
+    // What is said of a word that is no such value: the rest of the line after the word.
     const EXPECTED: &'static str;
 
     // The value that a word is.
@@ -42,7 +42,7 @@ pub(crate) struct Number;
 
 impl Form for Polynomial {
     const EXPECTED: &'static str =
-        "is no polynomial; write it in decimal (19), in hexadecimal (0x13) or as falling exponents (4:1:0), below 2^64";
+        " is no polynomial; write it in decimal (19), in hexadecimal (0x13) or as falling exponents (4:1:0), below 2^64\n";
 
     fn value_of(word: &[u8]) -> Option<u64> {
         words::polynomial(word)
@@ -51,7 +51,7 @@ impl Form for Polynomial {
 
 impl Form for Number {
     const EXPECTED: &'static str =
-        "is no number; write it in decimal (19) or in hexadecimal (0x13), below 2^64";
+        " is no number; write it in decimal (19) or in hexadecimal (0x13), below 2^64\n";
 
     fn value_of(word: &[u8]) -> Option<u64> {
         words::number(word)
@@ -87,7 +87,9 @@ pub(crate) fn is_dash<H: Host>(host: &H, i: usize) -> bool {
 }
 
 // A path as std takes it. One whose bytes are no text it cannot name.
-pub(crate) fn text_of(path: &[u8]) -> Result<&str, Error> {
+pub(crate) fn text_of(path: &[u8]) -> Result<&str, Error>
+    ensures { IfOk result (λ text. text.now ≡ path.now) }
+{
     str::from_utf8(path).map_err(|_| Error::from_raw_os_error(EILSEQ))
 }
 
@@ -113,7 +115,9 @@ fn read_open<'s, H: Host, R: Read>(
     input: &mut R,
     name: &[u8],
     space: &'s mut [u8],
-) -> Result<&'s [u8], Failure> {
+) -> Result<&'s [u8], Failure>
+    ensures { IfOk result (λ bytes. length bytes.now ≤ length space.old) }
+{
     match read_whole(input, space) {
         Ok(size) => Ok(&space[..size]),
         Err(why) => Err(cannot(host, b"read", name, &why)),
@@ -121,10 +125,9 @@ fn read_open<'s, H: Host, R: Read>(
 }
 
 // What standard input has, as read_open reads it.
-pub(crate) fn read_standard<'s, H: Host>(
-    host: &H,
-    space: &'s mut [u8],
-) -> Result<&'s [u8], Failure> {
+pub(crate) fn read_standard<'s, H: Host>(host: &H, space: &'s mut [u8]) -> Result<&'s [u8], Failure>
+    ensures { IfOk result (λ bytes. length bytes.now ≤ length space.old) }
+{
     read_open(host, &mut host.reader(), b"standard input", space)
 }
 
@@ -133,7 +136,9 @@ pub(crate) fn read_input<'s, H: Host>(
     host: &H,
     i: usize,
     space: &'s mut [u8],
-) -> Result<&'s [u8], Failure> {
+) -> Result<&'s [u8], Failure>
+    ensures { IfOk result (λ bytes. length bytes.now ≤ length space.old) }
+{
     if is_dash(host, i) {
         return read_standard(host, space);
     }

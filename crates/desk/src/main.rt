@@ -60,7 +60,7 @@ fn run<H: Host>(command: Option<Command>, task: &mut Task<'_, H>) -> Result<(), 
 }
 
 // The command that the first word names, if there is such a command. No word at all asks for help.
-fn command_given<H: Host>(host: &H, given: &Given) -> Option<Command> {
+fn command_given<H: Host>(host: &H, given: &Given<'_>) -> Option<Command> {
     if given.help {
         return Some(Command::Help);
     }
@@ -76,11 +76,12 @@ fn command_given<H: Host>(host: &H, given: &Given) -> Option<Command> {
 
 // On a refusal `why` has answered, and no other command has.
 fn answer<H: Host>(host: &H) -> Result<(), Failure> {
-    let given = options::gather(host)?;
+    let mut places = options::places_space();
+    let given = options::gather(host, &mut places)?;
     let command = command_given(host, &given);
     if given.from.is_some() && !command.is_some_and(Command::takes_from) {
-        let why = "'--from' goes with 'normal', 'polynomial' and 'read-matrices' alone";
-        return Err(bad_words(host, why));
+        let line = "desk: '--from' goes with 'normal', 'polynomial' and 'read-matrices' alone\n";
+        return Err(bad_words(host, line));
     }
     let output = replacing::open_output(host, &given)?;
     let mut task = Task { given, output };

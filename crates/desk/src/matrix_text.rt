@@ -1,5 +1,5 @@
 // The n matrices of a sheet as text (document 02, §4): written from a sheet, and read back for f and an element.
-ghost use Rattle.std.specs.Prelude.{◌≡◌, ◌+◌, ◌*◌, ◌≤◌, length};
+ghost use Rattle.std.specs.Prelude.{◌≡◌, ◌+◌, ◌*◌, ◌≤◌, length, IfOk};
 ghost use Rattle.gf2.specs.Limit.{limit};
 ghost use Rattle.matrices.specs.Matrices.{text_size};
 
@@ -46,7 +46,9 @@ pub(crate) fn answer_matrices<H: Host>(
 }
 
 // The text of the file after --from, or of standard input if there is none. What follows after the room is full is not read.
-fn read_text<'s, H: Host>(task: &Task<'_, H>, space: &'s mut [u8]) -> Result<&'s [u8], Failure> {
+fn read_text<'s, H: Host>(task: &Task<'_, H>, space: &'s mut [u8]) -> Result<&'s [u8], Failure>
+    ensures { IfOk result (λ text. length text.now ≤ length space.old) }
+{
     match task.given.from {
         Some(from) => read_input(task.host(), from, space),
         None => read_standard(task.host(), space),

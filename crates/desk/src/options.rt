@@ -13,28 +13,26 @@ pub(crate) const VALUES_AT: usize = 2;
 pub(crate) const MOST_WORDS: usize = LIST_LIMIT + VALUES_AT;
 
 // Room for the places of the words that are no options, and one more, by which too many show.
-const WORDS_ROOM: usize = MOST_WORDS + 1;
+pub(crate) const WORDS_ROOM: usize = MOST_WORDS + 1;
 
-fn places_space() -> [usize; WORDS_ROOM]
+pub(crate) fn places_space() -> [usize; WORDS_ROOM]
     ensures { 4099 ≡ length result }
 {
     [0; WORDS_ROOM]
 }
 
-// The places of the words of the command line that are no options.
+// The places of the words of the command line that are no options. Their room is lent, since a struct that has it is copied whole wherever
+// it is handed on.
 #[derive(Drop)]
-pub(crate) struct Words {
-    places: [usize; WORDS_ROOM],
+pub(crate) struct Words<'s> {
+    places: &'s mut [usize; WORDS_ROOM],
     count: usize,
     ghost have_room: { count ≤ 4099 },
 }
 
-impl Words {
-    fn none() -> Words {
-        Words {
-            places: places_space(),
-            count: 0,
-        }
+impl<'s> Words<'s> {
+    fn none(places: &'s mut [usize; WORDS_ROOM]) -> Self {
+        Words { places, count: 0 }
     }
 
     // Word i, after those before it, if there is room.
@@ -96,8 +94,8 @@ struct Awaiting {
 // What the command line has: its words; whether it asks for hexadecimal, the help page or the version; the places of the files after --to
 // and --from.
 #[derive(Drop)]
-pub(crate) struct Given {
-    pub(crate) words: Words,
+pub(crate) struct Given<'s> {
+    pub(crate) words: Words<'s>,
     pub(crate) hex: bool,
     pub(crate) help: bool,
     pub(crate) version: bool,
@@ -105,10 +103,10 @@ pub(crate) struct Given {
     pub(crate) from: Option<usize>,
 }
 
-impl Given {
-    fn nothing() -> Given {
+impl<'s> Given<'s> {
+    fn nothing(places: &'s mut [usize; WORDS_ROOM]) -> Self {
         Given {
-            words: Words::none(),
+            words: Words::none(places),
             hex: false,
             help: false,
             version: false,
@@ -143,10 +141,13 @@ impl Given {
     }
 }
 
-// All that the command line has after the program's name. If an option cannot be used, a line says so of the first: it is unknown, its
-// file is missing, or it was given before.
-pub(crate) fn gather<H: Host>(host: &H) -> Result<Given, Failure> {
-    let mut given = Given::nothing();
+// All that the command line has after the program's name; the places of its words go into the room. If an option cannot be used, a line
+// says so of the first: it is unknown, its file is missing, or it was given before.
+pub(crate) fn gather<'s, H: Host>(
+    host: &H,
+    places: &'s mut [usize; WORDS_ROOM],
+) -> Result<Given<'s>, Failure> {
+    let mut given = Given::nothing(places);
     let mut awaiting = None;
     for i in 1..word_count(host) {
         awaiting = match awaiting {

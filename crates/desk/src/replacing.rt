@@ -1,5 +1,7 @@
 // The file that --to names. The answer is written to a new file beside it, which is synced and takes its name when the command is done;
 // otherwise the file stays as it was.
+ghost use Rattle.std.specs.Prelude.{◌≤◌, length, IfOk};
+
 use super::complaints::Errors;
 use super::input::{is_dash, text_of};
 use super::options::Given;
@@ -23,11 +25,9 @@ fn chance<H: Host>(host: &H) -> u32 {
 }
 
 // The name of the new file, put at the front of the space: the path and a mark, so that no two commands write to the same one.
-fn name_beside<'s>(
-    path: &[u8],
-    mark: u32,
-    space: &'s mut [u8; NAME_ROOM],
-) -> Result<&'s str, Error> {
+fn name_beside<'s>(path: &[u8], mark: u32, space: &'s mut [u8; NAME_ROOM]) -> Result<&'s str, Error>
+    ensures { IfOk result (λ name. length name.now ≤ length space.old) }
+{
     let mut rest: &mut [u8] = space;
     rest.write_all(path)?;
     write!(rest, ".desk-{mark}")?;
@@ -49,14 +49,9 @@ fn open_update<H: Host>(host: &H, path: &[u8]) -> Result<H::File, Error> {
         .open(host, text_of(path)?)
 }
 
-// A line on a path that is not written to, though the system would. The run ends as failed.
-fn will_not<H: Host>(host: &H, path: &[u8], why: &str) -> Failure {
-    for part in [
-        b"desk: cannot write ".as_slice(),
-        path,
-        why.as_bytes(),
-        b"\n".as_slice(),
-    ] {
+// The parts of a line on a path that is not written to, though the system would. Each is tried. The run ends as failed.
+fn will_not<H: Host>(host: &H, parts: &[&[u8]]) -> Failure {
+    for part in parts {
         let _ = Errors(host).bytes(part);
     }
     Failure::Failed
@@ -67,7 +62,12 @@ fn may_replace<H: Host>(host: &H, path: &[u8]) -> Result<(), Failure> {
     match open_update(host, path) {
         Ok(mut file) => {
             if !is_regular(&mut file) {
-                return Err(will_not(host, path, ": it is no regular file"));
+                let parts = [
+                    b"desk: cannot write ".as_slice(),
+                    path,
+                    b": it is no regular file\n".as_slice(),
+                ];
+                return Err(will_not(host, &parts));
             }
             Ok(())
         }
@@ -100,12 +100,12 @@ fn open_replaced<H: Host>(host: &H, place: usize) -> Result<Replacement<H::File>
     let mut space = io::buffer();
     let path = word_at(host, place, &mut space);
     if path.is_empty() || path.len() > LONGEST {
-        let why = "a path that is empty or has more than 4000 bytes";
-        return Err(will_not(host, b"", why));
+        let line = b"desk: cannot write a path that is empty or has more than 4000 bytes\n";
+        return Err(will_not(host, &[line.as_slice()]));
     }
     if is_link(host, path) {
-        let why = "a link; name the file that it leads to";
-        return Err(will_not(host, b"", why));
+        let line = b"desk: cannot write a link; name the file that it leads to\n";
+        return Err(will_not(host, &[line.as_slice()]));
     }
     may_replace(host, path)?;
     match create(host, path, mark) {
@@ -118,7 +118,7 @@ fn open_replaced<H: Host>(host: &H, place: usize) -> Result<Replacement<H::File>
 // so.
 pub(crate) fn open_output<'a, H: Host>(
     host: &'a H,
-    given: &Given,
+    given: &Given<'_>,
 ) -> Result<Output<'a, H>, Failure> {
     let replacement = match given.to {
         Some(place) if !is_dash(host, place) => Some(open_replaced(host, place)?),

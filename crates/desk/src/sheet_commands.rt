@@ -1,4 +1,6 @@
 // The commands on one sheet: build, show, list, verify, why, matrices, times, inverse and quotient.
+ghost use Rattle.std.specs.Prelude.{◌≤◌, length, IfOk};
+
 use super::answers::put_value;
 use super::complaints::bad_words;
 use super::input::{INPUT_ROOM, Number, Polynomial, degree_named, read_standard};
@@ -36,9 +38,9 @@ fn build_words<'s, H: Host>(
 pub(crate) fn build<H: Host>(task: &mut Task<'_, H>) -> Result<(), Failure> {
     task.have(3, "build F ELEMENT")?;
     if task.output.is_terminal() {
-        let why =
-            "a sheet is bytes and no text for a terminal; write: desk build F ELEMENT > FILE, or --to FILE";
-        return Err(bad_words(task.host(), why));
+        let line =
+            "desk: a sheet is bytes and no text for a terminal; write: desk build F ELEMENT > FILE, or --to FILE\n";
+        return Err(bad_words(task.host(), line));
     }
     let mut space = [0u8; SHEET_ROOM];
     let bytes = build_words(task, &mut space)?;
@@ -58,7 +60,9 @@ fn read_named<'s, H: Host>(
     task: &Task<'_, H>,
     usage: &'static str,
     space: &'s mut [u8],
-) -> Result<&'s [u8], Failure> {
+) -> Result<&'s [u8], Failure>
+    ensures { IfOk result (λ bytes. length bytes.now ≤ length space.old) }
+{
     match task.places() {
         [_] => read_standard(task.host(), space),
         [_, _] => task.read_sheet(space),

@@ -1,4 +1,6 @@
 // A command at work.
+ghost use Rattle.std.specs.Prelude.{◌≤◌, length, IfOk};
+
 use super::complaints::{Fault, bad_word};
 use super::input::{Form, read_input, read_values};
 use super::options::Given;
@@ -7,7 +9,7 @@ use streams::{Failure, Host};
 
 // What a command was given, and where its answer goes.
 pub(crate) struct Task<'a, H: Host> {
-    pub(crate) given: Given,
+    pub(crate) given: Given<'a>,
     pub(crate) output: Output<'a, H>,
 }
 
@@ -51,7 +53,9 @@ impl<'a, H: Host> Task<'a, H> {
     }
 
     // What the input that word 1 names has.
-    pub(crate) fn read_sheet<'s>(&self, space: &'s mut [u8]) -> Result<&'s [u8], Failure> {
+    pub(crate) fn read_sheet<'s>(&self, space: &'s mut [u8]) -> Result<&'s [u8], Failure>
+        ensures { IfOk result (λ bytes. length bytes.now ≤ length space.old) }
+    {
         read_input(self.host(), self.place(1), space)
     }
 }
